@@ -1,0 +1,117 @@
+-- A table of cases beside document 01's own: doubles, and the edges that are easy to get wrong. Each row is proved by computing it. Single pi is 40490FDB, double
+-- pi 400921FB54442D18; where none is named the mark is 7CF00000.
+use mathlib.Core.Path.{_≡_, refl}
+use mathlib.Core.List.{List, [], _∷_}
+use Prim.Native.Nat.{ℕ, _+_, _^_}
+use lib.IntN.{ℤ, pos, negℤ}
+use Rattle.meaning.specs.Layers.{Nothing, Flat, Spread}
+use Rattle.meaning.specs.Questions.{refused}
+use Rattle.meaning.specs.Calls.{Call}
+use Rattle.meaning.proofs.Rows.{call, shave, set, groom, halfshave, round, absolute, digits, afterAll, after, answer, counting, loads, packed, layer, summed, unpacked, doubles}
+
+-- what a list of calls leaves of a double; the mark is a NaN
+afterDouble : List Call → ℕ → List ℕ
+unfolding afterAll
+afterDouble cs w = afterAll 52 11 0x7FF80000_00000000 cs (w ∷ [])
+
+-- what calls leave of singles, and what one of them answers, with any mark
+singles : ℕ → List Call → List ℕ → List ℕ
+unfolding afterAll
+singles mark cs ws = afterAll 23 8 mark cs ws
+
+abbrev pi : ℕ
+pi = 0x400921FB_54442D18
+
+pub record Edges : Type 0 where
+  -- ---- doubles
+  shave-double : afterDouble (shave 7 ∷ []) pi ≡ 0x40092000_00000000 ∷ []
+  set-double : afterDouble (set 7 ∷ []) pi ≡ 0x40093FFF_FFFFFFFF ∷ []
+  halfshave-double : afterDouble (halfshave 7 ∷ []) pi ≡ 0x40093000_00000000 ∷ []
+  round-double : afterDouble (round 7 ∷ []) pi ≡ 0x40092000_00000000 ∷ []
+  kept-double : afterDouble (round 52 ∷ []) pi ≡ pi ∷ []
+  clip-double : (afterDouble (round 7 ∷ []) 0xFFEFFFFF_FFFFFFFF ≡ 0xFFEFE000_00000000 ∷ []) × (answer 52 11 0 (round 7) (0xFFEFFFFF_FFFFFFFF ∷ []) ≡ counting 1 0 1 0)
+  absolute-double : (afterDouble (absolute 0 ∷ []) pi ≡ 0x40080000_00000000 ∷ []) × (afterDouble (absolute 0 ∷ []) 0xBFE00000_00000000 ≡ 0x80000000_00000000 ∷ [])
+  least-double : afterDouble (call 5 (negℤ (pos 1074)) ∷ []) 0x00000000_00000001 ≡ 0x00000000_00000001 ∷ []
+  largest-double : afterDouble (absolute 1000 ∷ []) 0x7FEFFFFF_FFFFFFFF ≡ 0x7FEFFFFF_E0000000 ∷ []
+  digits-double : afterDouble (digits 3 ∷ []) pi ≡ 0x40092800_00000000 ∷ []
+  -- ---- a tie whose even side lies beyond the largest finite value clips, and is counted
+  tie-clips : (after (round 7 ∷ []) 0x7F7F8000 ≡ 0x7F7F0000) × (answer 23 8 0x7CF00000 (round 7) (0x7F7F8000 ∷ []) ≡ counting 1 0 1 0)
+  absolute-clips : (after (absolute 127 ∷ []) 0x7F400000 ≡ 0x7F000000) × (answer 23 8 0x7CF00000 (absolute 127) (0x7F400000 ∷ []) ≡ counting 1 0 1 0)
+  tie-stays : (after (round 0 ∷ []) 0x7F400000 ≡ 0x7F000000) × (answer 23 8 0x7CF00000 (round 0) (0x7F400000 ∷ []) ≡ counting 1 0 0 0)
+  -- ---- clip comes before spare: the old pattern, counted as spared alone
+  clip-spare : (singles 0x7F7F0000 (round 7 ∷ []) (0x7F7FFFFF ∷ []) ≡ 0x7F7FFFFF ∷ []) × (answer 23 8 0x7F7F0000 (round 7) (0x7F7FFFFF ∷ []) ≡ counting 0 1 0 0)
+  -- ---- spare and missing go by bits: with the mark 00000000, 0.25 is spared, -0.25 becomes -0, and -0 is present
+  by-bits :
+      (singles 0 (absolute 0 ∷ []) (0x3E800000 ∷ 0xBE800000 ∷ 0x80000000 ∷ 0 ∷ []) ≡ 0x3E800000 ∷ 0x80000000 ∷ 0x80000000 ∷ 0 ∷ [])
+      × (answer 23 8 0 (absolute 0) (0x3E800000 ∷ 0xBE800000 ∷ 0x80000000 ∷ 0 ∷ []) ≡ counting 1 1 0 1)
+  -- ---- document 01's listing: both series of round 7
+  rain : (singles 0x7CF00000 (round 7 ∷ []) (0x40490FDB ∷ 0x7CF00001 ∷ []) ≡ 0x40490000 ∷ 0x7CF00001 ∷ []) × (answer 23 8 0x7CF00000 (round 7) (0x40490FDB ∷ 0x7CF00001 ∷ []) ≡ counting 1 1 0 0)
+  ozone : answer 23 8 0x7CF00000 (round 7) (0x7CF00000 ∷ 0x3F800000 ∷ []) ≡ counting 0 0 0 1
+  -- ---- a NaN that isn't the mark, and an infinity, are untouched and counted nowhere, and they and missing readings count as places
+  untouched : (after (shave 0 ∷ []) 0x7FC12345 ≡ 0x7FC12345) × (answer 23 8 0x7CF00000 (shave 0) (0x7FC12345 ∷ 0xFF800000 ∷ []) ≡ counting 0 0 0 0)
+  places : singles 0x7CF00000 (groom 7 ∷ []) (0x7F800000 ∷ 0x40490FDB ∷ 0x40490FDB ∷ 0x7CF00000 ∷ 0x40490FDB ∷ 0x40490FDB ∷ []) ≡ 0x7F800000 ∷ 0x4049FFFF ∷ 0x40490000 ∷ 0x7CF00000 ∷ 0x40490000 ∷ 0x4049FFFF ∷ []
+  -- ---- zeros of both signs stay
+  zeros : singles 0x7CF00000 (set 7 ∷ halfshave 7 ∷ round 7 ∷ absolute 0 ∷ digits 1 ∷ []) (0 ∷ 0x80000000 ∷ []) ≡ 0 ∷ 0x80000000 ∷ []
+  -- ---- digits can go round for ever: 100, 96, 100 ..
+  cycle : (after (digits 1 ∷ []) 0x42C80000 ≡ 0x42C00000) × (after (digits 1 ∷ []) 0x42C00000 ≡ 0x42C80000)
+  -- ---- a refused call changes nothing and answers its number alone; the loader adds 2^32
+  refused-call : (singles 0x7CF00000 (call 7 (pos 0) ∷ call 4 (negℤ (pos 1)) ∷ []) (0x40490FDB ∷ []) ≡ 0x40490FDB ∷ []) × (answer 23 8 0x7CF00000 (round 24) (0x40490FDB ∷ []) ≡ refused 2)
+  loader-refused : (loads (call 7 (pos 9999)) 0 0x40490FDB ≡ 2 ^ 32 + 1) × (loads (digits 0) 0 0x40490FDB ≡ 2 ^ 32 + 2)
+  loader-places : (loads (groom 7) 4 0x40490FDB ≡ 0x40490000) × (loads (groom 7) 0xFFFFFFFF_FFFFFFFF 0x40490FDB ≡ 0x4049FFFF)
+  -- ---- a zero in a summary is +0
+  summary-zeros : (summed (0x80000000 ∷ 0 ∷ []) ≡ Flat 0) × (summed (0x80000000 ∷ []) ≡ Flat 0)
+  summary-negative : summed (0xBF800000 ∷ 0x7CF00000 ∷ 0x80000000 ∷ []) ≡ Spread 0xBF800000 0
+  summary-nothing : summed (0x7CF00000 ∷ []) ≡ Nothing
+  pack-nothing : packed (0x7CF00000 ∷ 0x7CF00000 ∷ []) ≡ layer 0 (negℤ (pos 149)) (65535 ∷ 65535 ∷ [])
+  -- ---- the widest layer: the least exponent is 114; a tie goes to the even code, and the smallest single breaks it
+  pack-widest : packed (0xFF7FFFFF ∷ 0x7F7FFFFF ∷ 0 ∷ []) ≡ layer 0xFF7FFFFF (pos 114) (0 ∷ 32768 ∷ 16384 ∷ [])
+  pack-tie : packed (0 ∷ 0x477FFE00 ∷ 0x3F000000 ∷ 0x3FC00000 ∷ []) ≡ layer 0 (pos 0) (0 ∷ 65534 ∷ 0 ∷ 2 ∷ [])
+  pack-broken-tie : packed (0x80000001 ∷ 0x477FFD00 ∷ 0x3F000000 ∷ []) ≡ layer 0x80000001 (pos 0) (0 ∷ 65533 ∷ 1 ∷ [])
+  -- ---- unpacking: exactly zero is +0, also from -0; a missing code is the mark; one rounding, ties to even
+  unpack-zero : unpacked 0x80000000 (pos 0) (0 ∷ 65535 ∷ 1 ∷ []) ≡ doubles (0 ∷ 0x7FF00000_0000ABCD ∷ 0x3FF00000_00000000 ∷ [])
+  unpack-cancels : unpacked 0xBF800000 (pos 0) (0 ∷ 1 ∷ 3 ∷ []) ≡ doubles (0xBFF00000_00000000 ∷ 0 ∷ 0x40000000_00000000 ∷ [])
+  unpack-least : unpacked 0x00000001 (negℤ (pos 149)) (0 ∷ 1 ∷ []) ≡ doubles (0x36A00000_00000000 ∷ 0x36B00000_00000000 ∷ [])
+  unpack-tie : unpacked 0x25000000 (pos 0) (1 ∷ []) ≡ doubles (0x3FF00000_00000000 ∷ [])
+  unpack-up : unpacked 0x25800000 (pos 0) (1 ∷ []) ≡ doubles (0x3FF00000_00000001 ∷ [])
+
+pub edges : Edges
+unfolding afterDouble singles after answer loads packed summed unpacked
+edges =
+    record {
+      shave-double = refl;
+      set-double = refl;
+      halfshave-double = refl;
+      round-double = refl;
+      kept-double = refl;
+      clip-double = (refl, refl);
+      absolute-double = (refl, refl);
+      least-double = refl;
+      largest-double = refl;
+      digits-double = refl;
+      tie-clips = (refl, refl);
+      absolute-clips = (refl, refl);
+      tie-stays = (refl, refl);
+      clip-spare = (refl, refl);
+      by-bits = (refl, refl);
+      rain = (refl, refl);
+      ozone = refl;
+      untouched = (refl, refl);
+      places = refl;
+      zeros = refl;
+      cycle = (refl, refl);
+      refused-call = (refl, refl);
+      loader-refused = (refl, refl);
+      loader-places = (refl, refl);
+      summary-zeros = (refl, refl);
+      summary-negative = refl;
+      summary-nothing = refl;
+      pack-nothing = refl;
+      pack-widest = refl;
+      pack-tie = refl;
+      pack-broken-tie = refl;
+      unpack-zero = refl;
+      unpack-cancels = refl;
+      unpack-least = refl;
+      unpack-tie = refl;
+      unpack-up = refl;
+    }

@@ -1,0 +1,4 @@
+pub mod Rows
+pub mod Cases
+pub mod Refusals
+pub mod Edges

@@ -1,0 +1,120 @@
+-- Document 01, "Layers". Codes have b bits, 16 in document 01; exponents are counted in least spacings, so that -149 to 114 are 0 to 263.
+use mathlib.Core.Bool.{Bool, cond}
+use mathlib.Core.List.{List, [], _∷_, map, flatMap, zipWith, flatten}
+use Prim.Native.Nat.{ℕ, zero, suc, _+_, _-_, _*_, _/_, _^_}
+use lib.Dec.{leb, eqb}
+use lib.ListN.{length, take, drop}
+use Rattle.meaning.specs.Readings.{spacing, magnitude, pattern, magnitudeOf, leastExp, origin, position, missing}
+use Rattle.meaning.specs.Methods.{nearest}
+
+-- "A layer's summary has three kinds: nothing present, one value throughout, or a smallest and a largest value, each held as a single."
+pub data Summary : Type 0 where
+  Nothing : Summary
+  Flat : ℕ → Summary
+  Spread : ℕ → ℕ → Summary
+
+-- What a layer's codes are counted from and in: the reference R, a pattern, and the step exponent E.
+pub record Layer : Type 0 where
+  pub reference : ℕ
+  pub exponent : ℕ
+
+-- "65,535 means missing", and the codes below it
+unfoldable pub missingCode : ℕ → ℕ
+missingCode b = 2 ^ b - 1
+
+unfoldable pub lastCode : ℕ → ℕ
+lastCode b = 2 ^ b - 2
+
+-- "An exponent holds the span when the span is ≤ 65,534 times 2 to that exponent."
+unfoldable pub holds : ℕ → ℕ → ℕ → Bool
+holds b span e = leb span (lastCode b * 2 ^ e)
+
+-- the least exponent from e on that holds the span, of at most `more` after it
+unfoldable pub leastFrom : ℕ → ℕ → ℕ → ℕ → ℕ
+leastFrom b span zero e = e
+leastFrom b span (suc more) e = let later = leastFrom b span more (suc e) in cond (holds b span e) e later
+
+-- "A layer is a run of L singles": n runs of L
+unfoldable pub runs : ℕ → ℕ → List ℕ → List (List ℕ)
+runs L zero ws = []
+runs L (suc n) ws = take L ws ∷ runs L n (drop L ws)
+
+unfoldable pub layers : ℕ → List ℕ → List (List ℕ)
+layers L ws = runs L (length ws / L) ws
+
+module _ (F X : ℕ) where
+  -- "A zero in it is +0"
+  unfoldable pub plusZero : ℕ → ℕ
+  plusZero w = cond (eqb (magnitude F X w) 0) 0 w
+
+  -- the smaller and the larger of two values
+  unfoldable pub smaller : ℕ → ℕ → ℕ
+  smaller v w = cond (leb (position F X v) (position F X w)) v w
+
+  unfoldable pub larger : ℕ → ℕ → ℕ
+  larger v w = cond (leb (position F X v) (position F X w)) w v
+
+  -- a summary with one more value
+  unfoldable pub widened : ℕ → Summary → Summary
+  widened v Nothing = Flat v
+  widened v (Flat a) = cond (eqb v a) (Flat a) (Spread (smaller v a) (larger v a))
+  widened v (Spread a z) = Spread (smaller v a) (larger v z)
+
+  -- "missing readings play no part in it"
+  unfoldable pub summary : ℕ → List ℕ → Summary
+  summary mark [] = Nothing
+  summary mark (w ∷ ws) = let rest = summary mark ws in cond (missing mark w) rest (widened (plusZero w) rest)
+
+  -- "Reference R: the smallest present value; +0 if nothing is present."
+  unfoldable pub smallest : Summary → ℕ
+  smallest Nothing = 0
+  smallest (Flat a) = a
+  smallest (Spread a z) = a
+
+  -- "Span: largest minus smallest, and 0 if nothing is present."
+  unfoldable pub span : Summary → ℕ
+  span Nothing = 0
+  span (Flat a) = 0
+  span (Spread a z) = position F X z - position F X a
+
+  -- "Step exponent E: the least in -149 to 114", here 0 to `last`, that holds the span
+  unfoldable pub layerOf : ℕ → ℕ → ℕ → List ℕ → Layer
+  layerOf b last mark ws =
+      let s = summary mark ws in
+      record { reference = smallest s; exponent = leastFrom b (span s) last 0 }
+
+  -- "Code: (reading - R) / 2^E to the nearest whole number, ties to even; 65,535 means missing."
+  unfoldable pub code : ℕ → ℕ → Layer → ℕ → ℕ
+  code b mark l w = cond (missing mark w) (missingCode b) (nearest (position F X w - position F X (l .reference)) (2 ^ l .exponent))
+
+  -- "The exact meaning of a code that isn't the missing one is R plus code times the step, with nothing rounded": its position
+  unfoldable pub codeMeaning : Layer → ℕ → ℕ
+  codeMeaning l c = position F X (l .reference) + c * 2 ^ l .exponent
+
+  -- "Each layer is packed into its own part of the codes, and the reference and exponent arrays have one entry per layer."
+  unfoldable pub packedLayers : ℕ → ℕ → ℕ → ℕ → List ℕ → List Layer
+  packedLayers b last mark L ws = map (layerOf b last mark) (layers L ws)
+
+  unfoldable pub packedCodes : ℕ → ℕ → ℕ → ℕ → List ℕ → List ℕ
+  packedCodes b last mark L ws = flatMap (λ layer. map (code b mark (layerOf b last mark layer)) layer) (layers L ws)
+
+-- ---- unpacking
+
+-- The double magnitude nearest to a size, ties to even: the nearest multiple of the spacing there.
+unfoldable pub nearestMagnitude : ℕ → ℕ
+nearestMagnitude n = let g = spacing 52 (magnitudeOf 52 11 n) in magnitudeOf 52 11 (nearest n g * g)
+
+-- The double nearest to a position of singles. A least spacing of singles is 2 ^ (1074 - 149) of doubles; an exact zero is +0.
+unfoldable pub nearestDouble : ℕ → ℕ
+nearestDouble p =
+    let scale = 2 ^ (leastExp 52 11 - leastExp 23 8) in
+    cond (leb (origin 23 8) p)
+    (pattern 52 11 0 (nearestMagnitude ((p - origin 23 8) * scale)))
+    (pattern 52 11 1 (nearestMagnitude ((origin 23 8 - p) * scale)))
+
+-- "the code as a double, times 2^E, plus R, so that only the addition rounds; a missing code becomes the caller's double mark"
+unfoldable pub unpackedCode : ℕ → ℕ → Layer → ℕ → ℕ
+unpackedCode b mark l c = cond (eqb c (missingCode b)) mark (nearestDouble (codeMeaning 23 8 l c))
+
+unfoldable pub unpackedCodes : ℕ → ℕ → ℕ → List Layer → List ℕ → List ℕ
+unpackedCodes b mark L ls cs = flatten (zipWith (λ l part. map (unpackedCode b mark l) part) ls (layers L cs))
