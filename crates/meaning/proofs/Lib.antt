@@ -2,3 +2,17 @@ pub mod Rows
 pub mod Cases
 pub mod Refusals
 pub mod Edges
+pub mod Sizes
+pub mod Nearest
+pub mod Patterns
+pub mod Tails
+pub mod Rounding
+pub mod Grid
+pub mod Bracket
+pub mod Absolute
+pub mod Powers
+pub mod Digits
+pub mod Accepted
+pub mod OneReading
+pub mod Packing
+pub mod Laws

@@ -100,7 +100,8 @@ module _ (F X : ℕ) where
   acceptedCalls [] = []
   acceptedCalls (c ∷ cs) = leaving (trimQuestions F X (c .method) (c .setting)) (λ x. x ∷ acceptedCalls cs) (acceptedCalls cs)
 
+module _ (F : ℕ) where
   -- "The unit is the largest that any of them has at the original reading": at its magnitude m
   unfoldable pub largestUnit : List Method → ℕ → ℕ
   largestUnit [] m = 0
-  largestUnit (x ∷ xs) m = max (unit F X x m) (largestUnit xs m)
+  largestUnit (x ∷ xs) m = max (unit F x m) (largestUnit xs m)

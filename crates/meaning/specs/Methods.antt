@@ -46,6 +46,18 @@ tailChanged halfshave place t m = halfshaved t m
 unfoldable pub rounded : ℕ → ℕ → ℕ
 rounded t m = nearest m (2 ^ t) * 2 ^ t
 
+module _ (F : ℕ) where
+  -- "the unit is 2^t spacings", and 2^p for method 5, at a magnitude and in least spacings. Digits has none, and stands in no list of demand 3.
+  unfoldable pub unit : Method → ℕ → ℕ
+  unit (tail c k) m = 2 ^ (F - k) * spacing F m
+  unit (round k) m = 2 ^ (F - k) * spacing F m
+  unit (absolute q) m = 2 ^ q
+  unit (digits n) m = 0
+
+  -- method 5: "the nearest whole multiple of 2^p; a tie goes to the even multiple", as a size
+  unfoldable pub multiple : ℕ → ℕ → ℕ
+  multiple q m = nearest (size F m) (2 ^ q) * 2 ^ q
+
 -- how many digits n has to the base b, none for 0; `fuel` bounds their number
 unfoldable pub digitsFrom : ℕ → ℕ → ℕ → ℕ
 digitsFrom b zero n = 0
@@ -55,10 +67,6 @@ unfoldable pub digitCount : ℕ → ℕ → ℕ
 digitCount b n = digitsFrom b n n
 
 module _ (F X : ℕ) where
-  -- ---- method 5: "the nearest whole multiple of 2^p; a tie goes to the even multiple", as a size
-  unfoldable pub multiple : ℕ → ℕ → ℕ
-  multiple q m = nearest (size F m) (2 ^ q) * 2 ^ q
-
   -- ---- method 6, by whole numbers alone: the size times 10^leastExp has D = d + leastExp digits before the point, where 10^(d-1) ≤ size < 10^d
   unfoldable pub decade : ℕ → ℕ
   decade m = digitCount 10 (size F m * 10 ^ leastExp F X / 2 ^ leastExp F X)
@@ -78,14 +86,18 @@ module _ (F X : ℕ) where
   unfoldable pub clips : Method → ℕ → Bool
   clips (tail c k) m = false
   clips (round k) m = leb (infinity F X) (rounded (F - k) m)
-  clips (absolute q) m = ltb (size F (largest F X)) (multiple q m)
+  clips (absolute q) m = ltb (size F (largest F X)) (multiple F q m)
   clips (digits n) m = false
 
-  -- The new magnitude, after clipping: "the largest finite value on the grid instead (S, or the largest finite multiple of 2^p)".
+  -- the new size of method 5: "the largest finite value on the grid instead", here "the largest finite multiple of 2^p"
+  unfoldable pub absoluteSize : ℕ → ℕ → ℕ
+  absoluteSize q m = cond (clips (absolute q) m) (size F (largest F X) / 2 ^ q * 2 ^ q) (multiple F q m)
+
+  -- the new magnitude, where method 4 clips to S
   unfoldable pub newMagnitude : Method → ℕ → ℕ → ℕ
   newMagnitude (tail c k) place m = tailChanged c place (F - k) m
   newMagnitude (round k) place m = cond (clips (round k) m) (shaved (F - k) m) (rounded (F - k) m)
-  newMagnitude (absolute q) place m = magnitudeOf F X (cond (clips (absolute q) m) (size F (largest F X) / 2 ^ q * 2 ^ q) (multiple q m))
+  newMagnitude (absolute q) place m = magnitudeOf F X (absoluteSize q m)
   newMagnitude (digits n) place m = cond (eqb m 0) m (magnitudeOf F X (digitSize n m))
 
   -- "The sign never changes."
@@ -110,13 +122,6 @@ module _ (F X : ℕ) where
 
   unfoldable pub clipped : Method → ℕ → ℕ → ℕ → Bool
   clipped x mark place w = trimmable mark w && present mark (result x place w) && clips x (magnitude F X w)
-
-  -- ---- the unit of a method at a magnitude, in least spacings: "2^t spacings", or 2^p. Digits has none, and stands in no list of demand 3.
-  unfoldable pub unit : Method → ℕ → ℕ
-  unit (tail c k) m = 2 ^ (F - k) * spacing F m
-  unit (round k) m = 2 ^ (F - k) * spacing F m
-  unit (absolute q) m = 2 ^ q
-  unit (digits n) m = 0
 
   -- ---- an array
 

@@ -1,0 +1,57 @@
+-- What the questions give: an accepted method 6 has at least one digit. (Methods 0 to 5 need nothing: their laws hold for every setting.)
+use mathlib.Core.Path.{_≡_, refl, subst}
+use mathlib.Core.Bool.{Bool, true, false, cond, _&&_}
+use Prim.Native.Nat.{ℕ, suc, _-_, _^_, _≤_, _<_}
+use native.Mathlib.Omega.{arith}
+use borrow.Author.Tests.{leb-true, eqb-false, lt-leb}
+use lib.Dec.{leb, eqb}
+use lib.IntN.{ℤ, pos, negsuc, natAbs}
+use lib.Signed.{leZ}
+use Rattle.meaning.specs.Methods.{Method, tail, round, absolute, digits, digitCount}
+use Rattle.meaning.specs.Questions.{Outcome, refused, accepted, ask, settingInRange, methodOf, trimQuestions}
+
+abbrev pub Ready : Method → Type 0
+Ready (tail c k) = Unit {0}
+Ready (round k) = Unit {0}
+Ready (absolute q) = Unit {0}
+Ready (digits n) = 1 ≤ n
+
+either : (b : Bool) (x y : Method) → Ready x → (b ≡ false → Ready y) → Ready (cond b x y)
+either true x y h k = h
+either false x y h k = k refl
+
+-- the first of two tests
+and-first : (a b : Bool) → a && b ≡ true → a ≡ true
+and-first true b e = refl
+and-first false b e = e
+
+positive : (s : ℤ) → leZ (pos 1) s ≡ true → 1 ≤ natAbs s
+positive (pos k) e = leb-true 1 k e
+positive (negsuc k) e = absurd (let z : _≡_ {A = Bool} false true = e in let y : _≡_ {A = ℕ} 0 1 = cc in omega arith)
+
+module _ (F X method : ℕ) (s : ℤ) where
+  ready : settingInRange F X method s ≡ true → Ready (methodOf F X method s)
+  unfolding methodOf settingInRange
+  ready r =
+      either (eqb method 0) _ _ tt (λ a.
+      either (eqb method 1) _ _ tt (λ b.
+      either (eqb method 2) _ _ tt (λ c.
+      either (eqb method 3) _ _ tt (λ d.
+      either (eqb method 4) _ _ tt (λ e.
+      either (eqb method 5) _ _ tt (λ f.
+      last (eqb-false method 0 a) (eqb-false method 1 b) (eqb-false method 2 c) (eqb-false method 3 d) (eqb-false method 4 e) f))))))
+    where
+      last : ¬ (method ≡ 0) → ¬ (method ≡ 1) → ¬ (method ≡ 2) → ¬ (method ≡ 3) → ¬ (method ≡ 4) → eqb method 5 ≡ false → 1 ≤ natAbs s
+      last a b c d e f =
+          let k : 4 < method = omega arith in
+          let t : leZ (pos 1) s && leZ s (pos (digitCount 10 (2 ^ suc F) - 1)) ≡ true = rw (lt-leb method 4 k, f) at r in
+          positive s (and-first (leZ (pos 1) s) (leZ s (pos (digitCount 10 (2 ^ suc F) - 1))) t)
+
+  pub accepted-ready : (x : Method) → trimQuestions F X method s ≡ accepted x → Ready x
+  unfolding trimQuestions ask
+  accepted-ready x e = go (leb method 6) (settingInRange F X method s) refl e
+    where
+      go : (a b : Bool) → settingInRange F X method s ≡ b → cond a (cond b (accepted (methodOf F X method s)) (refused 2)) (refused 1) ≡ accepted x → Ready x
+      go true true r q = let m : methodOf F X method s ≡ x = cc in subst Ready m (ready r)
+      go true false r q = let z : _≡_ {A = ℕ} 0 1 = cc in absurd (omega arith)
+      go false b r q = let z : _≡_ {A = ℕ} 0 1 = cc in absurd (omega arith)

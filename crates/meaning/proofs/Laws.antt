@@ -1,0 +1,152 @@
+-- Laws that make the definitions believable, in document 01's words and order, for every width and for singles' layers. Most are proved in the other files; this is
+-- the page to read.
+use mathlib.Core.Path.{_≡_, refl, sym, _∙_, subst}
+use mathlib.Core.Logic.{_≢_, _↔_, _⊎_, inl, inr}
+use mathlib.Core.Bool.{true}
+use mathlib.Core.List.{List}
+use Prim.Native.Nat.{ℕ, zero, suc, _+_, _-_, _*_, _/_, _^_, _≤_, _<_}
+use native.Mathlib.Nat.{not-le-of-lt, sub-le}
+use native.Mathlib.Decide.{decLt, ℕ-discrete}
+use native.Mathlib.Omega.{arith}
+use lib.IntN.{ℤ}
+use lib.ListN.{length, getD}
+use lib.Pow.{pow-pos}
+use Rattle.meaning.specs.Readings.{size, spacing, sign, magnitude, pattern, infinity, finite, magnitudeOf, distance}
+use Rattle.meaning.specs.Methods.{Method, tail, shave, round, absolute, unit, nearest, shaved, rounded, tailChanged, absoluteSize, decade, newMagnitude, trimmed}
+use Rattle.meaning.specs.Layers.{lastCode, missingCode, holds, span, summary, layerOf, code}
+use Rattle.meaning.specs.Questions.{accepted, trimQuestions}
+use Rattle.meaning.proofs.Sizes.{size-mono, size-le}
+use Rattle.meaning.proofs.Patterns.{magnitudeOf-size, magnitudeOf-floor, finite-below, below-finite, sign-one, pattern-fits, pattern-back}
+use Rattle.meaning.proofs.Nearest.{nearest-floor}
+use Rattle.meaning.proofs.Grid.{unit-apart}
+use Rattle.meaning.proofs.Tails.{agree-close, tail-changed-agree}
+use Rattle.meaning.proofs.Rounding.{round-within, round-clipped}
+use Rattle.meaning.proofs.Absolute.{absolute-exact}
+use Rattle.meaning.proofs.Digits.{Decade, decade-rule}
+use Rattle.meaning.proofs.Accepted.{Ready, accepted-ready}
+use Rattle.meaning.proofs.OneReading.{trimmed-missing, trimmed-present, trimmed-other, Good, trimmed-good}
+use Rattle.meaning.proofs.Packing.{Packable, Coded, layer-holds, layer-least, layer-codes, singles-held}
+
+pub record Laws (F X : ℕ) : Type 0 where
+  -- Sizes and magnitudes are each other's inverse where they are finite: a size leads back to its magnitude, and any number to the largest magnitude below it.
+  pub inverse : (m : ℕ) → m < infinity F X → magnitudeOf F X (size F m) ≡ m
+  pub floor : (n : ℕ) → n < size F (infinity F X) → (size F (magnitudeOf F X n) ≤ n) × (n < size F (suc (magnitudeOf F X n)))
+  -- They are in one order.
+  pub order : (m n : ℕ) → (m < n) ↔ (size F m < size F n)
+  -- S and S + 2^t stand one unit apart; shave moves by less than a unit; round's result is one of the two.
+  pub unit-wide : (m t : ℕ) → t ≤ F → size F (shaved t m + 2 ^ t) ≡ size F (shaved t m) + 2 ^ t * spacing F m
+  pub shave-moves : (k place m : ℕ) → distance (size F m) (size F (newMagnitude F X (tail shave k) place m)) < unit F (tail shave k) m
+  pub round-either : (k place m : ℕ) → (newMagnitude F X (round k) place m ≡ shaved (F - k) m) ⊎ (newMagnitude F X (round k) place m ≡ shaved (F - k) m + 2 ^ (F - k))
+  -- The result of absolute has exactly the size that document 01 names: the nearest multiple, or the largest finite one.
+  pub absolute-size : (q place m : ℕ) → m < infinity F X → size F (newMagnitude F X (absolute q) place m) ≡ absoluteSize F X q m
+  -- The decade of digits is the one that document 01 names.
+  pub digit-decade : (m : ℕ) → 0 < m → Decade F X m (decade F X m)
+  -- What an accepted call leaves is a pattern of the width, is the mark exactly where the reading was, and is finite where the reading was.
+  pub left-pattern : (method : ℕ) (setting : ℤ) (x : Method) → trimQuestions F X method setting ≡ accepted x
+      → (mark place w : ℕ) → w < 2 ^ suc (F + X) → trimmed F X x mark place w < 2 ^ suc (F + X)
+  pub left-mark : (x : Method) (mark place w : ℕ) → (trimmed F X x mark place w ≡ mark) ↔ (w ≡ mark)
+  pub left-finite : (method : ℕ) (setting : ℤ) (x : Method) → trimQuestions F X method setting ≡ accepted x
+      → (mark place w : ℕ) → finite F X w ≡ true → finite F X (trimmed F X x mark place w) ≡ true
+
+module _ (F X : ℕ) where
+  order-both : (m n : ℕ) → (m < n) ↔ (size F m < size F n)
+  order-both m n = (size-mono F, λ h. back h (decLt m n))
+    where
+      back : size F m < size F n → Dec (m < n) → m < n
+      back h (yes l) = l
+      back h (no l) = absurd (not-le-of-lt h (size-le F {m = n} {n = m} (omega arith)))
+
+  shave-close : (k place m : ℕ) → distance (size F m) (size F (newMagnitude F X (tail shave k) place m)) < unit F (tail shave k) m
+  unfolding newMagnitude unit
+  shave-close k place m =
+      agree-close F m (tailChanged shave place (F - k) m) (F - k) (sub-le F k) (sym (tail-changed-agree shave place (F - k) m))
+
+  round-sides : (k place m : ℕ) → (newMagnitude F X (round k) place m ≡ shaved (F - k) m) ⊎ (newMagnitude F X (round k) place m ≡ shaved (F - k) m + 2 ^ (F - k))
+  unfolding shaved rounded
+  round-sides k place m = go (decLt (rounded (F - k) m) (infinity F X)) (ℕ-discrete (nearest m g) (m / g))
+    where
+      g : ℕ
+      g = 2 ^ (F - k)
+
+      up : nearest m g ≢ m / g → nearest m g ≡ m / g + 1
+      up h = omega (arith, nearest-floor m g (pow-pos (F - k)))
+
+      go : Dec (rounded (F - k) m < infinity F X) → Dec (nearest m g ≡ m / g)
+          → (newMagnitude F X (round k) place m ≡ shaved (F - k) m) ⊎ (newMagnitude F X (round k) place m ≡ shaved (F - k) m + 2 ^ (F - k))
+      go (no f) d = inl (round-clipped F X k place m (omega arith))
+      go (yes f) (yes d) = inl (round-within F X k place m f ∙ rw d refl)
+      go (yes f) (no d) = inr (round-within F X k place m f ∙ rw (up d) (omega arith))
+
+  -- a present finite reading stays one, with its sign
+  stays-good : (x : Method) → Ready x → (mark place w : ℕ) → w ≢ mark → magnitude F X w < infinity F X → Good F X (λ m. Unit {0}) mark (sign F X w) (trimmed F X x mark place w)
+  stays-good x r mark place w p f =
+      trimmed-good F X (λ m. Unit {0}) x r (λ place m h u. tt) mark place (sign F X w) w (record { here = p; below = f; signed = refl; holds = tt })
+
+  mark-both : (x : Method) (mark place w : ℕ) → (trimmed F X x mark place w ≡ mark) ↔ (w ≡ mark)
+  mark-both x mark place w = (λ h. back h (ℕ-discrete w mark), λ e. rw e (trimmed-missing F X x mark place))
+    where
+      back : trimmed F X x mark place w ≡ mark → Dec (w ≡ mark) → w ≡ mark
+      back h (yes e) = e
+      back h (no e) = absurd (trimmed-present F X x mark place w e h)
+
+  -- one that is not present and finite stays as it is
+  stays : (P : ℕ → Type 0) (x : Method) → Ready x → (mark place w : ℕ) → P w
+      → (w ≢ mark → magnitude F X w < infinity F X → Good F X (λ m. Unit {0}) mark (sign F X w) (trimmed F X x mark place w) → P (trimmed F X x mark place w))
+      → P (trimmed F X x mark place w)
+  stays P x r mark place w h k = go (ℕ-discrete w mark) (decLt (magnitude F X w) (infinity F X))
+    where
+      go : Dec (w ≡ mark) → Dec (magnitude F X w < infinity F X) → P (trimmed F X x mark place w)
+      go (yes e) f = subst P (sym (rw e (trimmed-missing F X x mark place))) h
+      go (no e) (no f) = subst P (sym (trimmed-other F X x mark place w f)) h
+      go (no e) (yes f) = k e f (stays-good x r mark place w e f)
+
+  left-fits : (x : Method) → Ready x → (mark place w : ℕ) → w < 2 ^ suc (F + X) → trimmed F X x mark place w < 2 ^ suc (F + X)
+  left-fits x r mark place w h =
+      stays (λ v. v < 2 ^ suc (F + X)) x r mark place w h (λ p f g.
+      rw (← pattern-back F X (trimmed F X x mark place w)) (pattern-fits F X (sign F X (trimmed F X x mark place w)) (magnitude F X (trimmed F X x mark place w)) (rw (g .signed) (sign-one F X w h)) (g .below)))
+
+  left-below : (x : Method) → Ready x → (mark place w : ℕ) → finite F X w ≡ true → finite F X (trimmed F X x mark place w) ≡ true
+  left-below x r mark place w h = stays (λ v. finite F X v ≡ true) x r mark place w h (λ p f g. below-finite F X (trimmed F X x mark place w) (g .below))
+
+  pub laws : Laws F X
+  laws =
+      record {
+        inverse = magnitudeOf-size F X;
+        floor = magnitudeOf-floor F X;
+        order = order-both;
+        unit-wide = unit-apart F;
+        shave-moves = shave-close;
+        round-either = round-sides;
+        absolute-size = absolute-exact F X;
+        digit-decade = decade-rule F X;
+        left-pattern = λ method setting x e. left-fits x (accepted-ready F X method setting x e);
+        left-mark = mark-both;
+        left-finite = λ method setting x e. left-below x (accepted-ready F X method setting x e);
+      }
+
+-- Layers of singles whose present readings are all finite: the step exponent holds the span and is the least that does, and a code is at most 65,534 or the missing one.
+pub record LayerLaws (mark : ℕ) (ws : List ℕ) : Type 0 where
+  pub exponent-holds : holds 16 (span 23 8 (summary 23 8 mark ws)) (layerOf 23 8 16 263 mark ws .exponent) ≡ true
+  pub exponent-least : (e : ℕ) → holds 16 (span 23 8 (summary 23 8 mark ws)) e ≡ true → layerOf 23 8 16 263 mark ws .exponent ≤ e
+  pub codes-bounded : (i : ℕ) → i < length ws
+      → let c = code 23 8 16 mark (layerOf 23 8 16 263 mark ws) (getD ws i 0) in
+      (c ≤ 65534) ⊎ (c ≡ 65535)
+
+pub layer-laws : (mark : ℕ) (ws : List ℕ) → Packable 23 8 mark ws → LayerLaws mark ws
+unfolding lastCode missingCode
+layer-laws mark ws p =
+    record {
+      exponent-holds = layer-holds 23 8 16 263 mark ws held;
+      exponent-least = layer-least 23 8 16 263 mark ws held;
+      codes-bounded = λ i h. bounded i (layer-codes 23 8 16 263 mark ws held i h) (ℕ-discrete (getD ws i 0) mark);
+    }
+  where
+    held : holds 16 (span 23 8 (summary 23 8 mark ws)) 263 ≡ true
+    held = singles-held mark ws p
+
+    c : ℕ → ℕ
+    c i = code 23 8 16 mark (layerOf 23 8 16 263 mark ws) (getD ws i 0)
+
+    bounded : (i : ℕ) → Coded 23 8 16 mark (layerOf 23 8 16 263 mark ws) (getD ws i 0) (c i) → Dec (getD ws i 0 ≡ mark) → (c i ≤ 65534) ⊎ (c i ≡ 65535)
+    bounded i r (yes e) = inr (r .missing-code e)
+    bounded i r (no e) = inl (r .other-code e)

@@ -1,0 +1,98 @@
+-- One reading and one accepted method: what is left of it. The mark stays, a present reading stays present, an infinity or NaN stays as it is, and what a method
+-- keeps of magnitudes it keeps of readings. No lemma here knows the place.
+use mathlib.Core.Path.{_≡_, refl, sym, ap, _∙_}
+use mathlib.Core.Logic.{_≢_, _↔_}
+use mathlib.Core.Bool.{Bool, true, false, not, _&&_}
+use Prim.Native.Nat.{ℕ, suc, _+_, _-_, _^_, _≤_, _<_}
+use native.Mathlib.Nat.{sub-le}
+use native.Mathlib.Decide.{decLt, ℕ-discrete}
+use native.Mathlib.Omega.{arith}
+use borrow.Author.Tests.{eq-eqb, ne-eqb, lt-ltb, le-ltb}
+use Rattle.meaning.specs.Readings.{magnitude, sign, pattern, infinity, finite, missing, present}
+use Rattle.meaning.specs.Methods.{Method, tail, round, absolute, digits, tailChanged, newMagnitude, result, trimmable, trimmed}
+use Rattle.meaning.proofs.Patterns.{magnitude-pattern, sign-pattern}
+use Rattle.meaning.proofs.Tails.{agree-finite, tail-changed-agree}
+use Rattle.meaning.proofs.Rounding.{round-below, absolute-below}
+use Rattle.meaning.proofs.Digits.{digits-below}
+use Rattle.meaning.proofs.Accepted.{Ready}
+
+module _ (F X : ℕ) where
+  -- ---- the three cases of `trimmed`
+
+  pub trimmed-missing : (x : Method) (mark place : ℕ) → trimmed F X x mark place mark ≡ mark
+  unfolding trimmed trimmable present missing
+  trimmed-missing x mark place = rw (eq-eqb mark mark refl) refl
+
+  pub trimmed-other : (x : Method) (mark place w : ℕ) → ¬ (magnitude F X w < infinity F X) → trimmed F X x mark place w ≡ w
+  unfolding trimmed trimmable present missing finite
+  trimmed-other x mark place w h = go (ℕ-discrete w mark)
+    where
+      go : Dec (w ≡ mark) → trimmed F X x mark place w ≡ w
+      go (yes e) = rw (eq-eqb w mark e) refl
+      go (no e) = rw (ne-eqb w mark e, le-ltb (magnitude F X w) (infinity F X) (omega arith)) refl
+
+  module _ (x : Method) (mark place w : ℕ) (p : w ≢ mark) (f : magnitude F X w < infinity F X) where
+    -- "the reading keeps its old pattern"
+    pub trimmed-spared : result F X x place w ≡ mark → trimmed F X x mark place w ≡ w
+    unfolding trimmed trimmable present missing finite
+    trimmed-spared e = rw (ne-eqb w mark p, lt-ltb (magnitude F X w) (infinity F X) f, eq-eqb (result F X x place w) mark e) refl
+
+    pub trimmed-result : result F X x place w ≢ mark → trimmed F X x mark place w ≡ result F X x place w
+    unfolding trimmed trimmable present missing finite
+    trimmed-result e = rw (ne-eqb w mark p, lt-ltb (magnitude F X w) (infinity F X) f, ne-eqb (result F X x place w) mark e) refl
+
+  -- ---- what follows
+
+  pub trimmed-present : (x : Method) (mark place w : ℕ) → w ≢ mark → trimmed F X x mark place w ≢ mark
+  trimmed-present x mark place w p = go (decLt (magnitude F X w) (infinity F X)) (ℕ-discrete (result F X x place w) mark)
+    where
+      go : Dec (magnitude F X w < infinity F X) → Dec (result F X x place w ≡ mark) → trimmed F X x mark place w ≢ mark
+      go (no f) e = rw (trimmed-other x mark place w f) p
+      go (yes f) (yes e) = rw (trimmed-spared x mark place w p f e) p
+      go (yes f) (no e) = rw (trimmed-result x mark place w p f e) e
+
+  result-is : (x : Method) (place w : ℕ) → result F X x place w ≡ pattern F X (sign F X w) (newMagnitude F X x place (magnitude F X w))
+  unfolding result
+  result-is x place w = refl
+
+  -- a finite magnitude stays finite
+  pub new-below : (x : Method) → Ready x → (place m : ℕ) → m < infinity F X → newMagnitude F X x place m < infinity F X
+  unfolding newMagnitude
+  new-below (tail c k) r place m h = agree-finite F X (tailChanged c place (F - k) m) m (F - k) (sub-le F k) (tail-changed-agree c place (F - k) m) h
+  new-below (round k) r place m h = round-below F X k place m h
+  new-below (absolute q) r place m h = absolute-below F X q place m h
+  new-below (digits n) r place m h = digits-below F X n place m r h
+
+  -- the method keeps P of finite magnitudes
+  abbrev pub Keeps : (ℕ → Type 0) → Method → Type 0
+  Keeps P x = (place m : ℕ) → m < infinity F X → P m → P (newMagnitude F X x place m)
+
+  -- a present finite reading with the sign s whose magnitude has P
+  pub record Good (P : ℕ → Type 0) (mark s w : ℕ) : Type 0 where
+    pub here : w ≢ mark
+    pub below : magnitude F X w < infinity F X
+    pub signed : sign F X w ≡ s
+    pub holds : P (magnitude F X w)
+
+  pub trimmed-good : (P : ℕ → Type 0) (x : Method) → Ready x → Keeps P x → (mark place s w : ℕ) → Good P mark s w → Good P mark s (trimmed F X x mark place w)
+  trimmed-good P x r keeps mark place s w g = go (ℕ-discrete (result F X x place w) mark)
+    where
+      m : ℕ
+      m = newMagnitude F X x place (magnitude F X w)
+
+      below-m : m < infinity F X
+      below-m = new-below x r place (magnitude F X w) (g .below)
+
+      is : result F X x place w ≡ pattern F X (sign F X w) m
+      is = result-is x place w
+
+      go : Dec (result F X x place w ≡ mark) → Good P mark s (trimmed F X x mark place w)
+      go (yes e) = rw (trimmed-spared x mark place w (g .here) (g .below) e) g
+      go (no e) =
+          rw (trimmed-result x mark place w (g .here) (g .below) e)
+          (record {
+            here = e;
+            below = rw (is, magnitude-pattern F X (sign F X w) m below-m) below-m;
+            signed = rw (is, sign-pattern F X (sign F X w) m below-m) (g .signed);
+            holds = rw (is, magnitude-pattern F X (sign F X w) m below-m) (keeps place (magnitude F X w) (g .below) (g .holds));
+          })
