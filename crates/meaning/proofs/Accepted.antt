@@ -49,9 +49,10 @@ module _ (F X method : ℕ) (s : ℤ) where
 
   pub accepted-ready : (x : Method) → trimQuestions F X method s ≡ accepted x → Ready x
   unfolding trimQuestions ask
-  accepted-ready x e = go (leb method 6) (settingInRange F X method s) refl e
+  accepted-ready x e = go (leb method 6) refl (settingInRange F X method s) refl
     where
-      go : (a b : Bool) → settingInRange F X method s ≡ b → cond a (cond b (accepted (methodOf F X method s)) (refused 2)) (refused 1) ≡ accepted x → Ready x
-      go true true r q = let m : methodOf F X method s ≡ x = cc in subst Ready m (ready r)
-      go true false r q = let z : _≡_ {A = ℕ} 0 1 = cc in absurd (omega arith)
-      go false b r q = let z : _≡_ {A = ℕ} 0 1 = cc in absurd (omega arith)
+      go : (a : Bool) → leb method 6 ≡ a → (b : Bool) → settingInRange F X method s ≡ b → Ready x
+      go true p true q = let y = simp (p, q) at e in let m : methodOf F X method s ≡ x = cc in subst Ready m (ready q)
+      go true p false q = let y = simp (p, q) at e in let z : _≡_ {A = ℕ} 0 1 = cc in absurd (omega arith)
+      go false p true q = let y = simp (p, q) at e in let z : _≡_ {A = ℕ} 0 1 = cc in absurd (omega arith)
+      go false p false q = let y = simp (p, q) at e in let z : _≡_ {A = ℕ} 0 1 = cc in absurd (omega arith)

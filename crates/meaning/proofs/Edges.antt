@@ -4,6 +4,8 @@ use mathlib.Core.Path.{_≡_, refl}
 use mathlib.Core.List.{List, [], _∷_}
 use Prim.Native.Nat.{ℕ, _+_, _^_}
 use lib.IntN.{ℤ, pos, negℤ}
+use Rattle.meaning.specs.Methods
+use Rattle.meaning.specs.Methods.{unit}
 use Rattle.meaning.specs.Layers.{Nothing, Flat, Spread}
 use Rattle.meaning.specs.Questions.{refused}
 use Rattle.meaning.specs.Calls.{Call}
@@ -47,11 +49,19 @@ pub record Edges : Type 0 where
   -- ---- document 01's listing: both series of round 7
   rain : (singles 0x7CF00000 (round 7 ∷ []) (0x40490FDB ∷ 0x7CF00001 ∷ []) ≡ 0x40490000 ∷ 0x7CF00001 ∷ []) × (answer 23 8 0x7CF00000 (round 7) (0x40490FDB ∷ 0x7CF00001 ∷ []) ≡ counting 1 1 0 0)
   ozone : answer 23 8 0x7CF00000 (round 7) (0x7CF00000 ∷ 0x3F800000 ∷ []) ≡ counting 0 0 0 1
+  -- ---- the unit: with 7 keep bits 2^16 spacings, at pi 1/64, which is 2^-6 or 2^(149-6) least spacings; with the absolute step 2^0 it is 1 anywhere
+  unit-of-pi : unit 23 (Methods.round 7) 0x40490FDB ≡ 2 ^ 143
+  unit-absolute : unit 23 (Methods.absolute 149) 0x40490FDB ≡ 2 ^ 149
+  unit-subnormal : unit 23 (Methods.tail Methods.set 7) 0x00000001 ≡ 2 ^ 16
   -- ---- a NaN that isn't the mark, and an infinity, are untouched and counted nowhere, and they and missing readings count as places
   untouched : (after (shave 0 ∷ []) 0x7FC12345 ≡ 0x7FC12345) × (answer 23 8 0x7CF00000 (shave 0) (0x7FC12345 ∷ 0xFF800000 ∷ []) ≡ counting 0 0 0 0)
   places : singles 0x7CF00000 (groom 7 ∷ []) (0x7F800000 ∷ 0x40490FDB ∷ 0x40490FDB ∷ 0x7CF00000 ∷ 0x40490FDB ∷ 0x40490FDB ∷ []) ≡ 0x7F800000 ∷ 0x4049FFFF ∷ 0x40490000 ∷ 0x7CF00000 ∷ 0x40490000 ∷ 0x4049FFFF ∷ []
+  -- ---- a reading with the mark's magnitude and the other sign is present: -1.5 beside the mark 1.5
+  mark-sign : singles 0x3FC00000 (absolute 0 ∷ []) (0xBFC00000 ∷ 0x3FC00000 ∷ []) ≡ 0xC0000000 ∷ 0x3FC00000 ∷ []
   -- ---- zeros of both signs stay
-  zeros : singles 0x7CF00000 (set 7 ∷ halfshave 7 ∷ round 7 ∷ absolute 0 ∷ digits 1 ∷ []) (0 ∷ 0x80000000 ∷ []) ≡ 0 ∷ 0x80000000 ∷ []
+  zeros-set : singles 0x7CF00000 (set 7 ∷ []) (0 ∷ 0x80000000 ∷ []) ≡ 0 ∷ 0x80000000 ∷ []
+  zeros-halfshave : singles 0x7CF00000 (halfshave 7 ∷ []) (0 ∷ 0x80000000 ∷ []) ≡ 0 ∷ 0x80000000 ∷ []
+  zeros-other : singles 0x7CF00000 (shave 7 ∷ groom 7 ∷ round 7 ∷ absolute 0 ∷ digits 1 ∷ []) (0 ∷ 0x80000000 ∷ []) ≡ 0 ∷ 0x80000000 ∷ []
   -- ---- digits can go round for ever: 100, 96, 100 ..
   cycle : (after (digits 1 ∷ []) 0x42C80000 ≡ 0x42C00000) × (after (digits 1 ∷ []) 0x42C00000 ≡ 0x42C80000)
   -- ---- a refused call changes nothing and answers its number alone; the loader adds 2^32
@@ -75,7 +85,7 @@ pub record Edges : Type 0 where
   unpack-up : unpacked 0x25800000 (pos 0) (1 ∷ []) ≡ doubles (0x3FF00000_00000001 ∷ [])
 
 pub edges : Edges
-unfolding afterDouble singles after answer loads packed summed unpacked
+unfolding afterDouble singles after answer unit loads packed summed unpacked
 edges =
     record {
       shave-double = refl;
@@ -95,9 +105,15 @@ edges =
       by-bits = (refl, refl);
       rain = (refl, refl);
       ozone = refl;
+      unit-of-pi = refl;
+      unit-absolute = refl;
+      unit-subnormal = refl;
       untouched = (refl, refl);
       places = refl;
-      zeros = refl;
+      mark-sign = refl;
+      zeros-set = refl;
+      zeros-halfshave = refl;
+      zeros-other = refl;
       cycle = (refl, refl);
       refused-call = (refl, refl);
       loader-refused = (refl, refl);
