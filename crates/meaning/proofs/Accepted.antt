@@ -1,6 +1,6 @@
 -- What the questions give: an accepted method 6 has at least one digit. (Methods 0 to 5 need nothing: their laws hold for every setting.)
-use mathlib.Core.Path.{_≡_, refl, subst}
-use mathlib.Core.Bool.{Bool, true, false, cond, _&&_}
+use mathlib.Core.Path.{_≡_, refl, sym, subst}
+use mathlib.Core.Bool.{Bool, true, false, cond, _&&_, true≢false}
 use Prim.Native.Nat.{ℕ, suc, _-_, _^_, _≤_, _<_}
 use native.Mathlib.Omega.{arith}
 use borrow.Author.Tests.{leb-true, eqb-false, lt-leb}
@@ -20,14 +20,18 @@ either : (b : Bool) (x y : Method) → Ready x → (b ≡ false → Ready y) →
 either true x y h k = h
 either false x y h k = k refl
 
--- the first of two tests
-and-first : (a b : Bool) → a && b ≡ true → a ≡ true
+-- two tests that both pass
+pub and-first : (a b : Bool) → a && b ≡ true → a ≡ true
 and-first true b e = refl
 and-first false b e = e
 
+pub and-second : (a b : Bool) → a && b ≡ true → b ≡ true
+and-second true b e = e
+and-second false b e = absurd (true≢false (sym e))
+
 positive : (s : ℤ) → leZ (pos 1) s ≡ true → 1 ≤ natAbs s
 positive (pos k) e = leb-true 1 k e
-positive (negsuc k) e = absurd (let z : _≡_ {A = Bool} false true = e in let y : _≡_ {A = ℕ} 0 1 = cc in omega arith)
+positive (negsuc k) e = absurd (true≢false (sym e))
 
 module _ (F X method : ℕ) (s : ℤ) where
   ready : settingInRange F X method s ≡ true → Ready (methodOf F X method s)

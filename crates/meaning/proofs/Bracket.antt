@@ -7,7 +7,7 @@ use native.Mathlib.Decide.{decLe, ℕ-discrete}
 use native.Mathlib.Omega.{arith}
 use lib.Pow.{pow-pos, pow-add}
 use Rattle.meaning.specs.Readings.{spacingExp, size, distance}
-use Rattle.meaning.proofs.Sizes.{size-le, size-mono, size-at, size-small, Form, form}
+use Rattle.meaning.proofs.Sizes.{size-le, size-mono, size-at, spacing-at, size-small, Form, form}
 use Rattle.meaning.proofs.Powers.{pow-split}
 use Rattle.meaning.proofs.Grid.{Grid, grid}
 use Rattle.meaning.proofs.Rounding.{Mult}
@@ -26,7 +26,7 @@ mult-add {m} {n} {g} x y =
 multiple : (j g : ℕ) → Mult g (j * g)
 multiple j g = record { times = j; is = refl }
 
--- v is on the grid of every unit up to 2 ^ Q, taken at a magnitude with the spacingExp c: its size for absolute units, its pattern for tails
+-- v is on the grid of every unit up to 2 ^ Q, taken where the spacing is 2 ^ c: its size for absolute units, its pattern for tails
 pub record Point (F c Q v : ℕ) : Type 0 where
   pub grid : Mult (2 ^ Q) (size F v)
   pub tail : (t : ℕ) → t ≤ F → t + c ≤ Q → Mult (2 ^ t) v
@@ -39,6 +39,8 @@ pub record Bracket (F m Q : ℕ) : Type 0 where
   pub low-point : Point F (spacingExp F m) Q low
   pub high-point : Point F (spacingExp F m) Q high
   pub close : (y : ℕ) → low ≤ y → y ≤ high → distance (size F m) (size F y) < 2 ^ Q
+  -- where the step is at most 2 ^ F spacings, the spacing is nowhere smaller than at m
+  pub spaced : Q - spacingExp F m ≤ F → spacingExp F m ≤ spacingExp F low
 
 module _ (F m Q : ℕ) where
   -- m itself is a point
@@ -53,12 +55,13 @@ module _ (F m Q : ℕ) where
         low-point = p;
         high-point = p;
         close = λ y a b. let e : y ≡ m = omega arith in rw e (omega (arith, pow-pos Q));
+        spaced = λ d. le-refl (spacingExp F m);
       }
 
   -- m lies strictly between two points, one step apart
-  inside : (l h : ℕ) → l < m → m < h → size F h ≤ size F l + 2 ^ Q → Point F (spacingExp F m) Q l → Point F (spacingExp F m) Q h → Bracket F m Q
+  inside : (l h : ℕ) → l < m → m < h → size F h ≤ size F l + 2 ^ Q → (Q - spacingExp F m ≤ F → spacingExp F m ≤ spacingExp F l) → Point F (spacingExp F m) Q l → Point F (spacingExp F m) Q h → Bracket F m Q
   unfolding distance
-  inside l h a b s p q =
+  inside l h a b s d p q =
       record {
         low = l;
         high = h;
@@ -67,6 +70,7 @@ module _ (F m Q : ℕ) where
         low-point = p;
         high-point = q;
         close = λ y x z. omega (arith, size-mono F a, size-mono F b, size-le F x, size-le F z);
+        spaced = d;
       }
 
   -- the unit is at most 2 ^ F spacings: a point of the closed binade of m
@@ -81,29 +85,30 @@ module _ (F m Q : ℕ) where
       }
 
   near : Q - spacingExp F m ≤ F → Bracket F m Q
-  near d = go (grid F m (Q - c) d) (decLe c Q)
+  near d = go (ℕ-discrete (b .rest) 0) (decLe c Q)
     where
       c : ℕ
       c = spacingExp F m
 
+      b : Grid F m (Q - c)
+      b = grid F m (Q - c) d
+
       g : ℕ
       g = 2 ^ (Q - c)
 
-      at : (b : Grid F m (Q - c)) → Dec (b .rest ≡ 0) → Dec (c ≤ Q) → Bracket F m Q
-      at b (yes z) x =
-          let e : c * 2 ^ F + b .whole * g ≡ m = omega (arith, b .is) in
-          here (subst (λ (v : ℕ). Point F c Q v) e (near-point c (b .whole) d (b .low) (omega (arith, b .top))))
-      at b (no z) (yes x) =
+      low-point : Point F c Q (c * 2 ^ F + b .whole * g)
+      low-point = near-point c (b .whole) d (b .low) (omega (arith, b .top))
+
+      go : Dec (b .rest ≡ 0) → Dec (c ≤ Q) → Bracket F m Q
+      go (yes z) x = here (subst (λ (v : ℕ). Point F c Q v) (let e : c * 2 ^ F + b .whole * g ≡ m = omega (arith, b .is) in e) low-point)
+      go (no z) (yes x) =
           inside (c * 2 ^ F + b .whole * g) (c * 2 ^ F + suc (b .whole) * g)
           (omega (arith, b .is)) (omega (arith, b .is, b .less))
           (omega (arith, pow-split Q c x, size-at F c (b .whole * g) (b .low) (omega (arith, b .top)), size-at F c (suc (b .whole) * g) (b .high) (b .top)))
-          (near-point c (b .whole) d (b .low) (omega (arith, b .top))) (near-point c (suc (b .whole)) d (b .high) (b .top))
-      at b (no z) (no x) =
+          (λ _. spacing-at F c (b .whole * g) (b .low)) low-point (near-point c (suc (b .whole)) d (b .high) (b .top))
+      go (no z) (no x) =
           let e : Q - c ≡ 0 = omega arith in
-          absurd (z (omega (arith, rw e at (b .less), pow-zero 2)))
-
-      go : Grid F m (Q - c) → Dec (c ≤ Q) → Bracket F m Q
-      go b x = at b (ℕ-discrete (b .rest) 0) x
+          absurd (z (omega (arith, b .less, ap (λ (x : ℕ). 2 ^ x) e, pow-zero 2)))
 
   -- the unit is larger
   zero-point : Point F (spacingExp F m) Q 0
@@ -130,7 +135,7 @@ module _ (F m Q : ℕ) where
       go (yes z) = here (subst (λ (v : ℕ). Point F (spacingExp F m) Q v) (sym z) zero-point)
       go (no z) =
           inside 0 top (omega arith) (omega (arith, f .is, f .below, mul-le-mul-right {m = suc (spacingExp F m)} {n = Q - F} (2 ^ F) (omega arith)))
-          (omega (arith, top-size)) zero-point top-point
+          (omega (arith, top-size)) (λ l. absurd (omega arith)) zero-point top-point
 
   pub bracket : Bracket F m Q
   bracket = go (decLe (Q - spacingExp F m) F)

@@ -16,3 +16,5 @@ pub mod Accepted
 pub mod OneReading
 pub mod Packing
 pub mod Laws
+pub mod Lists
+pub mod Claim

@@ -2,21 +2,36 @@
 -- keeps of magnitudes it keeps of readings. No lemma here knows the place.
 use mathlib.Core.Path.{_≡_, refl, sym, ap, _∙_}
 use mathlib.Core.Logic.{_≢_, _↔_}
-use mathlib.Core.Bool.{Bool, true, false, not, _&&_}
+use mathlib.Core.Bool.{true, true≢false}
 use Prim.Native.Nat.{ℕ, suc, _+_, _-_, _^_, _≤_, _<_}
 use native.Mathlib.Nat.{sub-le}
 use native.Mathlib.Decide.{decLt, ℕ-discrete}
 use native.Mathlib.Omega.{arith}
-use borrow.Author.Tests.{eq-eqb, ne-eqb, lt-ltb, le-ltb}
+use borrow.Author.Tests.{eq-eqb, ne-eqb, lt-ltb, le-ltb, ltb-true}
+use lib.Dec.{ltb}
 use Rattle.meaning.specs.Readings.{magnitude, sign, pattern, infinity, finite, missing, present}
 use Rattle.meaning.specs.Methods.{Method, tail, round, absolute, digits, tailChanged, newMagnitude, result, trimmable, trimmed}
 use Rattle.meaning.proofs.Patterns.{magnitude-pattern, sign-pattern}
 use Rattle.meaning.proofs.Tails.{agree-finite, tail-changed-agree}
 use Rattle.meaning.proofs.Rounding.{round-below, absolute-below}
 use Rattle.meaning.proofs.Digits.{digits-below}
-use Rattle.meaning.proofs.Accepted.{Ready}
+use Rattle.meaning.proofs.Accepted.{Ready, and-second}
 
 module _ (F X : ℕ) where
+  -- ---- what is trimmed is present and finite
+
+  pub is-trimmable : (mark w : ℕ) → w ≢ mark → magnitude F X w < infinity F X → trimmable F X mark w ≡ true
+  unfolding trimmable present missing finite
+  is-trimmable mark w p f = rw (ne-eqb w mark p, lt-ltb (magnitude F X w) (infinity F X) f) refl
+
+  pub trimmable-present : (mark w : ℕ) → trimmable F X mark w ≡ true → w ≢ mark
+  unfolding trimmable present missing
+  trimmable-present mark w o e = true≢false (sym o ∙ rw (eq-eqb w mark e) refl)
+
+  pub trimmable-below : (mark w : ℕ) → trimmable F X mark w ≡ true → magnitude F X w < infinity F X
+  unfolding trimmable finite
+  trimmable-below mark w o = ltb-true (magnitude F X w) (infinity F X) (and-second (present mark w) (ltb (magnitude F X w) (infinity F X)) o)
+
   -- ---- the three cases of `trimmed`
 
   pub trimmed-missing : (x : Method) (mark place : ℕ) → trimmed F X x mark place mark ≡ mark

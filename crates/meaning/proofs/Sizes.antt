@@ -3,13 +3,13 @@ use mathlib.Core.Path.{_≡_, refl, sym, ap, _∙_}
 use mathlib.Core.Logic.{_⊎_, inl, inr}
 use mathlib.Core.Bool.{Bool, true, false, cond}
 use Prim.Native.Nat.{ℕ, zero, suc, max, _+_, _-_, _*_, _/_, _%_, _^_, _≤_, _<_}
-use native.Mathlib.Nat.{mod-lt, div-add-mod', zero-mul, zero-add, pow-zero, mul-one, mul-le-mul-right, mul-le-mul, pow-suc, mul-div-cancel, mul-assoc, le-refl, le-of-lt, le-add-right, mul-lt-mul-of-pos-right}
+use native.Mathlib.Nat.{mod-lt, le-div-iff-mul-le, div-add-mod', zero-mul, zero-add, pow-zero, mul-one, mul-le-mul-right, mul-le-mul, pow-suc, mul-div-cancel, mul-assoc, le-refl, le-of-lt, le-add-right, mul-lt-mul-of-pos-right}
 use native.Mathlib.Numerals.{sub-one}
 use native.Mathlib.Decide.{decLt}
 use native.Mathlib.Omega.{arith}
 use lib.Dec.{T, ltb, eqb, eqb·suc-zero}
 use borrow.Author.Tests.{ltb-true, ltb-false, lt-ltb, le-ltb}
-use lib.Pow.{pow-pos, pow-mono, high, low}
+use lib.Pow.{pow-pos, pow-mono, high, low, shr-mono}
 use Rattle.meaning.specs.Readings.{exponentField, fraction, spacingExp, size, encode}
 
 module _ (F : ℕ) where
@@ -92,7 +92,16 @@ module _ (F : ℕ) where
   pub size-form : (m : ℕ) (f : Form m) → size F m ≡ f .sig * 2 ^ spacingExp F m
   size-form m f = ap (λ (x : ℕ). size F x) (f .is) ∙ size-at (spacingExp F m) (f .sig) (f .above) (omega arith)
 
-  -- ---- sizes grow with magnitudes
+  -- ---- spacings and sizes grow with magnitudes
+
+  pub spacing-mono : {m n : ℕ} → m ≤ n → spacingExp F m ≤ spacingExp F n
+  unfolding spacingExp exponentField
+  spacing-mono h = omega (arith, shr-mono F h)
+
+  pub spacing-at : (c s : ℕ) → (c ≡ 0) ⊎ (2 ^ F ≤ s) → c ≤ spacingExp F (c * 2 ^ F + s)
+  unfolding spacingExp exponentField
+  spacing-at c s (inl z) = omega arith
+  spacing-at c s (inr l) = omega (arith, le-div-iff-mul-le {k = 2 ^ F} {x = suc c} {y = c * 2 ^ F + s} (pow-pos F) .1 (omega arith))
 
   -- a magnitude of a higher binade has a normal significand
   normal-above : {m c : ℕ} → c < spacingExp F m → (f : Form m) → 2 ^ F ≤ f .sig

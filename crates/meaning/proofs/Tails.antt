@@ -61,7 +61,7 @@ module _ (F X : ℕ) where
   agree-finite m n t h e l = div-lt-iff-lt-mul (pow-pos F) .0 (rw (agree-up m n t F h e) (div-lt-iff-lt-mul (pow-pos F) .1 l))
 
 module _ (F : ℕ) where
-  same-spacing : (m n t : ℕ) → t ≤ F → Agree t m n → spacingExp F m ≡ spacingExp F n
+  pub same-spacing : (m n t : ℕ) → t ≤ F → Agree t m n → spacingExp F m ≡ spacingExp F n
   unfolding spacingExp exponentField
   same-spacing m n t h e = ap (λ (x : ℕ). max x 1 - 1) (agree-up m n t F h e)
 

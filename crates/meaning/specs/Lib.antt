@@ -4,3 +4,4 @@ pub mod Methods
 pub mod Layers
 pub mod Questions
 pub mod Calls
+pub mod Claim
