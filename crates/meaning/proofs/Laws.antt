@@ -25,7 +25,7 @@ use Rattle.meaning.proofs.Absolute.{absolute-exact}
 use Rattle.meaning.proofs.Digits.{Decade, decade-rule}
 use Rattle.meaning.proofs.Accepted.{Ready, accepted-ready}
 use Rattle.meaning.proofs.OneReading.{trimmed-missing, trimmed-present, trimmed-other, Good, trimmed-good}
-use Rattle.meaning.proofs.Packing.{Packable, Coded, layer-holds, layer-least, layer-codes, singles-held}
+use Rattle.meaning.proofs.Packing.{Packable, CodedIn, layer-holds, layer-least, layer-codes, singles-held}
 
 pub record Laws (F X : ℕ) : Type 0 where
   -- Sizes and magnitudes are each other's inverse where they are finite: a size leads back to its magnitude, and any number to the largest magnitude below it.
@@ -147,6 +147,6 @@ layer-laws mark ws p =
     c : ℕ → ℕ
     c i = code 23 8 16 mark (layerOf 23 8 16 263 mark ws) (getD ws i 0)
 
-    bounded : (i : ℕ) → Coded 23 8 16 mark (layerOf 23 8 16 263 mark ws) (getD ws i 0) (c i) → Dec (getD ws i 0 ≡ mark) → (c i ≤ 65534) ⊎ (c i ≡ 65535)
+    bounded : (i : ℕ) → CodedIn 23 8 16 mark (layerOf 23 8 16 263 mark ws) (getD ws i 0) (c i) → Dec (getD ws i 0 ≡ mark) → (c i ≤ 65534) ⊎ (c i ≡ 65535)
     bounded i r (yes e) = inr (r .missing-code e)
     bounded i r (no e) = inl (r .other-code e)

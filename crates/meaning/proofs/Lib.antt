@@ -18,3 +18,6 @@ pub mod Packing
 pub mod Laws
 pub mod Lists
 pub mod Claim
+pub mod Layering
+pub mod Packed
+pub mod Exponents

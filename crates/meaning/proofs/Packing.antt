@@ -220,7 +220,7 @@ module _ (F X : ℕ) where
   code-present b mark l w e = rw (ne-eqb w mark e) refl
 
   -- what packing promises of a reading w of a layer l by its code c
-  pub record Coded (b mark : ℕ) (l : Layer) (w c : ℕ) : Type 0 where
+  pub record CodedIn (b mark : ℕ) (l : Layer) (w c : ℕ) : Type 0 where
     pub missing-code : w ≡ mark → c ≡ missingCode b
     pub other-code : w ≢ mark → c ≤ lastCode b
     pub half-step : w ≢ mark → 2 * distance (position F X w) (codeMeaning F X l c) ≤ 2 ^ l .exponent
@@ -243,7 +243,7 @@ module _ (F X : ℕ) where
     unfolding layerOf
     reference-below i k e = spans-span s (position F X (getD ws i 0)) (summary-spans mark ws i k e)
 
-    pub layer-codes : (i : ℕ) → i < length ws → Coded b mark (layerOf F X b last mark ws) (getD ws i 0) (code F X b mark (layerOf F X b last mark ws) (getD ws i 0))
+    pub layer-codes : (i : ℕ) → i < length ws → CodedIn b mark (layerOf F X b last mark ws) (getD ws i 0) (code F X b mark (layerOf F X b last mark ws) (getD ws i 0))
     unfolding distance codeMeaning
     layer-codes i k =
         record {

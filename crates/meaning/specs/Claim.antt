@@ -4,12 +4,13 @@ use mathlib.Core.Logic.{_↔_, _≢_}
 use mathlib.Core.Bool.{Bool, true, false, _||_}
 use mathlib.Core.List.{List, []}
 use Prim.Native.Nat.{ℕ, _+_, _*_, _/_, _^_, _≤_, _<_}
-use lib.IntN.{ℤ, pos}
+use lib.IntN.{ℤ, pos, negℤ}
 use lib.ListN.{length, getD, take, drop}
+use lib.Signed.{ltZ}
 use Rattle.meaning.specs.Readings.{sign, magnitude, finite, magnitudeOf, origin, position, distance}
 use Rattle.meaning.specs.Methods.{Method, tail, round, absolute, digits, trimmable}
 use Rattle.meaning.specs.Layers.{Layer, holds, summary, span, codeMeaning}
-use Rattle.meaning.specs.Questions.{Outcome, accepted, all}
+use Rattle.meaning.specs.Questions.{Outcome, accepted, between, above, all}
 use Rattle.meaning.specs.Calls.{Call, AfterPack, inTurn, acceptedCalls, largestUnit, pack, storedLayer}
 
 -- "only roundings, to keep bits and absolute steps in any mixture"
@@ -63,19 +64,21 @@ pub record Coded (mark : ℕ) (xs : List Method) (w : ℕ) (l : Layer) (c : ℕ)
       < 2 * largestUnit 23 xs (magnitudeOf 23 8 (distance (codeMeaning 23 8 l c) (origin 23 8) + 2 ^ l .exponent / 2)) + 2 ^ l .exponent
 
 -- "Each layer's step exponent holds the span of what was packed in that layer, and every other exponent of 01's range that holds it is larger."
-pub record LeastHolding (n e : ℕ) : Type 0 where
-  pub in-range : e ≤ 263
-  pub itself : holds 16 n e ≡ true
-  pub others-larger : (d : ℕ) → holds 16 n d ≡ true → d ≢ e → e < d
+pub record LeastHolding (n : ℕ) (e : ℤ) : Type 0 where
+  pub in-range : between (negℤ (pos 149)) e (pos 114) ≡ true
+  pub itself : holds 16 n (above 149 e) ≡ true
+  pub others-larger : (d : ℤ) → between (negℤ (pos 149)) d (pos 114) ≡ true → holds 16 n (above 149 d) ≡ true → d ≢ e → ltZ e d ≡ true
 
 -- "The packing that may follow gets the array as the list left it, with any L, and is judged by the codes, references and exponents that it leaves."
 pub record PackClaim (cs : List Call) (mark : ℕ) (ws : List ℕ) (L : ℕ) (p : AfterPack) : Type 0 where
+  pub codes-long : length (p .codes) ≡ length ws
+  pub references-long : length (p .references) ≡ length ws / L
+  pub exponents-long : length (p .exponents) ≡ length ws / L
   -- place i is in layer i / L
   pub each-code : (i : ℕ) → i < length ws
       → Coded mark (acceptedCalls 23 8 cs) (getD ws i 0) (storedLayer (getD (p .references) (i / L) 0) (getD (p .exponents) (i / L) (pos 0))) (getD (p .codes) i 0)
   pub each-layer : (j : ℕ) → j < length ws / L
-      → LeastHolding (span 23 8 (summary 23 8 mark (take L (drop (j * L) (inTurn 23 8 cs mark ws)))))
-      (storedLayer (getD (p .references) j 0) (getD (p .exponents) j (pos 0)) .exponent)
+      → LeastHolding (span 23 8 (summary 23 8 mark (take L (drop (j * L) (inTurn 23 8 cs mark ws))))) (getD (p .exponents) j (pos 0))
 
 -- Demand 3.
 pub record Demand3 : Type 0 where
