@@ -8,7 +8,7 @@ use lib.Dec.{leb, eqb}
 use lib.IntN.{ℤ, pos, negsuc, natAbs}
 use lib.Signed.{leZ}
 use Rattle.meaning.specs.Methods.{Method, tail, round, absolute, digits, digitCount}
-use Rattle.meaning.specs.Questions.{Outcome, refused, accepted, ask, settingInRange, methodOf, trimQuestions}
+use Rattle.meaning.specs.Questions.{accepted, ask, settingInRange, methodOf, trimQuestions}
 
 abbrev pub Ready : Method → Type 0
 Ready (tail c k) = Unit {0}

@@ -4,7 +4,7 @@ use mathlib.Core.Path.{_≡_, refl}
 use mathlib.Core.List.{[], _∷_}
 use Prim.Native.Nat.{ℕ}
 use lib.IntN.{pos, negℤ}
-use Rattle.meaning.proofs.Rows.{shave, set, halfshave, round, absolute, digits, after, answer, counting, packed, layer}
+use Rattle.meaning.proofs.CasesRows.{shave, set, halfshave, round, absolute, digits, after, answer, counting, packed, layer}
 
 abbrev pi : ℕ
 pi = 0x40490FDB

@@ -1,17 +1,16 @@
 -- Method 6: the decade is the one that document 01 names, the step is at most the size, and so the result never leaves the binade upwards.
-use mathlib.Core.Path.{_≡_, refl, sym, ap, _∙_}
-use mathlib.Core.Logic.{_≢_, inr}
-use mathlib.Core.Bool.{cond}
-use Prim.Native.Nat.{ℕ, zero, suc, _+_, _-_, _*_, _/_, _%_, _^_, _≤_, _<_}
-use native.Mathlib.Nat.{div-add-mod', div-lt-iff-lt-mul, le-div-iff-mul-le, div-lt-self, div-mul-le-self, mod-lt, mul-le-mul-right, mul-le-mul-left, mul-le-mul, pow-suc, pow-zero, pos-of-ne-zero, one-le-pow, pow-le-pow-left, pow-le-pow-right, le-trans, le-refl, div-le-of-le-mul, mul-pos}
+use mathlib.Core.Path.{_≡_, refl, sym, _∙_}
+use mathlib.Core.Logic.{inr}
+use Prim.Native.Nat.{ℕ, zero, suc, _+_, _-_, _*_, _/_, _^_, _≤_, _<_}
+use native.Mathlib.Nat.{div-add-mod', div-lt-iff-lt-mul, le-div-iff-mul-le, div-lt-self, div-mul-le-self, mod-lt, mul-le-mul-right, mul-le-mul-left, mul-le-mul, pow-suc, pow-zero, pos-of-ne-zero, pow-le-pow-left, pow-le-pow-right, le-trans, le-refl, div-le-of-le-mul}
 use native.Mathlib.Decide.{decLt, ℕ-discrete}
 use native.Mathlib.Omega.{arith}
 use borrow.Author.Tests.{eq-eqb, ne-eqb, lt-ltb, le-ltb}
 use lib.Pow.{pow-pos, pow-add}
-use Rattle.meaning.specs.Readings.{exponentField, size, spacing, infinity, magnitudeOf, leastExp}
+use Rattle.meaning.specs.Readings.{size, spacing, infinity, magnitudeOf, leastExp}
 use Rattle.meaning.specs.Methods.{digits, digitsFrom, digitCount, decade, digitStep, digitSize, newMagnitude}
 use Rattle.meaning.proofs.Powers.{pow-split, pow-le}
-use Rattle.meaning.proofs.Sizes.{size-at, size-mono, size-le, size-small}
+use Rattle.meaning.proofs.Sizes.{size-at, size-mono, size-le}
 use Rattle.meaning.proofs.Patterns.{magnitudeOf-size, magnitudeOf-below}
 
 -- ---- digits to the base b

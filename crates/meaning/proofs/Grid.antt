@@ -1,6 +1,6 @@
 -- A magnitude beside the grid of its tail: its significand is some whole tails and a rest, and both neighbours on the grid lie in its closed binade, where one size
 -- formula serves.
-use mathlib.Core.Path.{_≡_, refl, sym, ap, _∙_}
+use mathlib.Core.Path.{_≡_, sym, ap, _∙_}
 use mathlib.Core.Logic.{_⊎_, inl, inr}
 use Prim.Native.Nat.{ℕ, suc, _+_, _-_, _*_, _/_, _%_, _^_, _≤_, _<_}
 use native.Mathlib.Nat.{div-add-mod', mod-lt, le-div-iff-mul-le, div-lt-iff-lt-mul, div-eq-of-lt-le, mul-le-mul-right}

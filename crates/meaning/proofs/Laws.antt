@@ -4,7 +4,7 @@ use mathlib.Core.Path.{_≡_, refl, sym, _∙_, subst}
 use mathlib.Core.Logic.{_≢_, _↔_, _⊎_, inl, inr}
 use mathlib.Core.Bool.{true}
 use mathlib.Core.List.{List}
-use Prim.Native.Nat.{ℕ, zero, suc, _+_, _-_, _*_, _/_, _^_, _≤_, _<_}
+use Prim.Native.Nat.{ℕ, suc, _+_, _-_, _*_, _/_, _^_, _≤_, _<_}
 use native.Mathlib.Nat.{not-le-of-lt, sub-le}
 use native.Mathlib.Decide.{decLt, ℕ-discrete}
 use native.Mathlib.Omega.{arith}
@@ -16,7 +16,7 @@ use Rattle.meaning.specs.Methods.{Method, tail, shave, round, absolute, 
 use Rattle.meaning.specs.Layers.{lastCode, missingCode, holds, span, summary, layerOf, code}
 use Rattle.meaning.specs.Questions.{accepted, trimQuestions}
 use Rattle.meaning.proofs.Sizes.{size-mono, size-le}
-use Rattle.meaning.proofs.Patterns.{magnitudeOf-size, magnitudeOf-floor, finite-below, below-finite, sign-one, pattern-fits, pattern-back}
+use Rattle.meaning.proofs.Patterns.{magnitudeOf-size, magnitudeOf-floor, below-finite, sign-one, pattern-fits, pattern-back}
 use Rattle.meaning.proofs.Nearest.{nearest-floor}
 use Rattle.meaning.proofs.Grid.{unit-apart}
 use Rattle.meaning.proofs.Tails.{agree-close, tail-changed-agree}
@@ -25,7 +25,7 @@ use Rattle.meaning.proofs.Absolute.{absolute-exact}
 use Rattle.meaning.proofs.Digits.{Decade, decade-rule}
 use Rattle.meaning.proofs.Accepted.{Ready, accepted-ready}
 use Rattle.meaning.proofs.OneReading.{trimmed-missing, trimmed-present, trimmed-other, Good, trimmed-good}
-use Rattle.meaning.proofs.Packing.{Packable, CodedIn, layer-holds, layer-least, layer-codes, singles-held}
+use Rattle.meaning.proofs.Packing.{Packable, layer-holds, layer-least, layer-codes, singles-held}
 
 pub record Laws (F X : ℕ) : Type 0 where
   -- Sizes and magnitudes are each other's inverse where they are finite: a size leads back to its magnitude, and any number to the largest magnitude below it.
@@ -124,13 +124,13 @@ module _ (F X : ℕ) where
         left-finite = λ method setting x e. left-below x (accepted-ready F X method setting x e);
       }
 
--- Layers of singles whose present readings are all finite: the step exponent holds the span and is the least that does, and a code is at most 65,534 or the missing one.
+-- Layers of singles whose present readings are all finite: the step exponent holds the span and is the least that does; a code is the missing
+-- one where the reading is missing, and at most 65,534 elsewhere.
 pub record LayerLaws (mark : ℕ) (ws : List ℕ) : Type 0 where
   pub exponent-holds : holds 16 (span 23 8 (summary 23 8 mark ws)) (layerOf 23 8 16 263 mark ws .exponent) ≡ true
   pub exponent-least : (e : ℕ) → holds 16 (span 23 8 (summary 23 8 mark ws)) e ≡ true → layerOf 23 8 16 263 mark ws .exponent ≤ e
-  pub codes-bounded : (i : ℕ) → i < length ws
-      → let c = code 23 8 16 mark (layerOf 23 8 16 263 mark ws) (getD ws i 0) in
-      (c ≤ 65534) ⊎ (c ≡ 65535)
+  pub codes-missing : (i : ℕ) → i < length ws → getD ws i 0 ≡ mark → code 23 8 16 mark (layerOf 23 8 16 263 mark ws) (getD ws i 0) ≡ 65535
+  pub codes-bounded : (i : ℕ) → i < length ws → getD ws i 0 ≢ mark → code 23 8 16 mark (layerOf 23 8 16 263 mark ws) (getD ws i 0) ≤ 65534
 
 pub layer-laws : (mark : ℕ) (ws : List ℕ) → Packable 23 8 mark ws → LayerLaws mark ws
 unfolding lastCode missingCode
@@ -138,15 +138,9 @@ layer-laws mark ws p =
     record {
       exponent-holds = layer-holds 23 8 16 263 mark ws held;
       exponent-least = layer-least 23 8 16 263 mark ws held;
-      codes-bounded = λ i h. bounded i (layer-codes 23 8 16 263 mark ws held i h) (ℕ-discrete (getD ws i 0) mark);
+      codes-missing = λ i h e. layer-codes 23 8 16 263 mark ws held i h .missing-code e;
+      codes-bounded = λ i h e. layer-codes 23 8 16 263 mark ws held i h .other-code e;
     }
   where
     held : holds 16 (span 23 8 (summary 23 8 mark ws)) 263 ≡ true
     held = singles-held mark ws p
-
-    c : ℕ → ℕ
-    c i = code 23 8 16 mark (layerOf 23 8 16 263 mark ws) (getD ws i 0)
-
-    bounded : (i : ℕ) → CodedIn 23 8 16 mark (layerOf 23 8 16 263 mark ws) (getD ws i 0) (c i) → Dec (getD ws i 0 ≡ mark) → (c i ≤ 65534) ⊎ (c i ≡ 65535)
-    bounded i r (yes e) = inr (r .missing-code e)
-    bounded i r (no e) = inl (r .other-code e)

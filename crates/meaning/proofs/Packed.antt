@@ -1,28 +1,28 @@
 -- Demand 3 with packing: the codes, references and exponents that an accepted packing leaves, beside the readings that the list of trims began with. A code's exact
 -- meaning lies within half a step of the trimmed reading, and that less than a unit from the original.
-use mathlib.Core.Path.{_≡_, refl, sym, ap, ap₂, _∙_, subst}
-use mathlib.Core.Logic.{_≢_, _↔_}
+use mathlib.Core.Path.{_≡_, refl, sym, ap, _∙_, subst}
+use mathlib.Core.Logic.{_≢_}
 use mathlib.Core.Bool.{Bool, true, false, true≢false, _&&_, _||_}
 use mathlib.Core.List.{List, [], _∷_, map, map-map}
-use Prim.Native.Nat.{ℕ, zero, suc, max, _+_, _-_, _*_, _/_, _%_, _^_, _≤_, _<_, zero-le}
-use native.Mathlib.Nat.{div-add-mod', mod-lt, div-lt-iff-lt-mul, le-refl, le-trans, mul-le-mul-right, mul-le-mul-left, not-suc-le-zero, le-of-suc-le-suc, lt-of-lt-of-le}
+use Prim.Native.Nat.{ℕ, zero, suc, _+_, _-_, _*_, _/_, _%_, _^_, _≤_, _<_}
+use native.Mathlib.Nat.{div-add-mod', mod-lt, div-lt-iff-lt-mul, le-refl, mul-le-mul-right, mul-le-mul-left, not-suc-le-zero, le-of-suc-le-suc, lt-of-lt-of-le}
 use native.Mathlib.Decide.{decLt, ℕ-discrete}
 use native.Mathlib.Omega.{arith}
-use borrow.Author.Tests.{leb-true, eqb-true, eq-eqb, ne-eqb, lt-ltb, le-ltb}
-use lib.Dec.{leb, eqb, ltb}
+use borrow.Author.Tests.{leb-true, eqb-true, ne-eqb}
+use lib.Dec.{leb, eqb}
 use lib.IntN.{ℤ, pos, negℤ, subℕ}
 use lib.Signed.{leZ, ltZ}
 use lib.ListN.{length, getD, take, drop, length-map, length-drop}
-use lib.Pow.{pow-pos, pow-mono}
+use lib.Pow.{pow-mono}
 use lib.Seq.{getD-take, getD-drop, length-take-le}
-use Rattle.meaning.specs.Readings.{spacing, spacingExp, size, sign, magnitude, infinity, finite, magnitudeOf, origin, position, distance, missing}
+use Rattle.meaning.specs.Readings.{spacing, size, sign, magnitude, infinity, finite, magnitudeOf, origin, position, distance, missing}
 use Rattle.meaning.specs.Methods.{Method, tail, round, absolute, digits, unit, trimmable}
 use Rattle.meaning.specs.Layers.{Layer, missingCode, lastCode, holds, span, summary, runs, layers, layerOf, code, codeMeaning, packedLayers, packedCodes}
-use Rattle.meaning.specs.Questions.{Outcome, refused, accepted, ask, all, above, layerQuestions, packQuestions}
+use Rattle.meaning.specs.Questions.{Outcome, accepted, ask, all, above, layerQuestions, packQuestions}
 use Rattle.meaning.specs.Calls.{Call, AfterPack, leaving, inTurn, acceptedCalls, largestUnit, pack, storedExponent, storedLayer}
 use Rattle.meaning.specs.Claim.{oneKind, Kept, Coded, LeastHolding, PackClaim, Demand3}
 use Rattle.meaning.proofs.Sizes.{spacing-mono}
-use Rattle.meaning.proofs.Patterns.{finite-below, below-finite, size-below, position-plus, position-minus, magnitudeOf-size, magnitudeOf-mono}
+use Rattle.meaning.proofs.Patterns.{finite-below, size-below, position-plus, position-minus, magnitudeOf-size, magnitudeOf-mono}
 use Rattle.meaning.proofs.Accepted.{and-first, and-second}
 use Rattle.meaning.proofs.OneReading.{is-trimmable}
 use Rattle.meaning.proofs.Packing.{Packable, CodedIn, layer-holds, layer-least, layer-codes, singles-held}

@@ -4,11 +4,11 @@ use mathlib.Core.Path.{_≡_, refl, sym, ap, _∙_}
 use mathlib.Core.Logic.{_≢_}
 use mathlib.Core.Bool.{Bool, true, false, true≢false}
 use mathlib.Core.List.{List, [], _∷_}
-use Prim.Native.Nat.{ℕ, zero, suc, min, max, _+_, _-_, _*_, _/_, _%_, _^_, _≤_, _<_, zero-le, suc-le-suc}
-use native.Mathlib.Nat.{le-refl, le-trans, zero-add, add-zero, add-suc, suc-add, not-suc-le-zero, le-of-suc-le-suc, min-eq-left, min-eq-right, max-eq-left, max-eq-right, div-eq-of-lt, mod-eq-of-lt, le-of-lt}
+use Prim.Native.Nat.{ℕ, zero, suc, min, max, _+_, _-_, _*_, _^_, _≤_, _<_, zero-le, suc-le-suc}
+use native.Mathlib.Nat.{le-trans, zero-add, add-zero, add-suc, suc-add, not-suc-le-zero, le-of-suc-le-suc, min-eq-left, min-eq-right, max-eq-left, max-eq-right, mod-eq-of-lt, le-of-lt}
 use native.Mathlib.Decide.{decLe, ℕ-discrete}
 use native.Mathlib.Omega.{arith}
-use borrow.Author.Tests.{eqb-false, eq-eqb, ne-eqb, le-leb, lt-leb, leb-true, leb-false}
+use borrow.Author.Tests.{eq-eqb, ne-eqb, le-leb, lt-leb, leb-true}
 use lib.Dec.{lit≤}
 use lib.ListN.{length, getD}
 use lib.Pow.{pow-pos}
@@ -154,7 +154,7 @@ module _ (F X : ℕ) where
       go (no e) s = rw (summary-present mark w ws e) (widened-old (plusZero F X w) q (summary F X mark ws) s)
 
   -- the reference is lowest, and the span holds the difference
-  spans-span : (s : Summary) (p : ℕ) → Spans s p → (position F X (smallest F X s) ≤ p) × (p - position F X (smallest F X s) ≤ span F X s)
+  spans-span : (s : Summary) (p : ℕ) → Spans s p → (position F X (smallest s) ≤ p) × (p - position F X (smallest s) ≤ span F X s)
   unfolding smallest span
   spans-span Nothing p h = absurd h
   spans-span (Flat a) p h = omega arith

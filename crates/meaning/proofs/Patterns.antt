@@ -1,14 +1,14 @@
 -- Patterns and magnitudes of a width: a sign and a magnitude make a pattern and come back from it, and sizes lead back to magnitudes.
-use mathlib.Core.Path.{_≡_, refl, sym, ap, _∙_}
+use mathlib.Core.Path.{_≡_, refl, sym, _∙_}
 use mathlib.Core.Logic.{_≢_}
 use mathlib.Core.Bool.{true}
-use Prim.Native.Nat.{ℕ, suc, max, _+_, _-_, _*_, _/_, _%_, _^_, _≤_, _<_}
-use native.Mathlib.Nat.{div-add-mod', div-lt-iff-lt-mul, mul-div-cancel, mul-le-mul-right, mul-le-mul-left, mul-lt-mul-of-pos-right, lt-of-lt-of-le, not-le-of-lt, le-of-lt}
+use Prim.Native.Nat.{ℕ, suc, _+_, _-_, _*_, _^_, _≤_, _<_}
+use native.Mathlib.Nat.{div-add-mod', div-lt-iff-lt-mul, mul-div-cancel, mul-le-mul-right, mul-le-mul-left, mul-lt-mul-of-pos-right, not-le-of-lt, le-of-lt}
 use native.Mathlib.Decide.{decLt, ℕ-discrete}
 use native.Mathlib.Omega.{arith}
 use borrow.Author.Tests.{ltb-true, lt-ltb, eq-eqb, ne-eqb}
 use lib.Pow.{pow-pos, pow-add, pow-mono, high, low}
-use Rattle.meaning.specs.Readings.{exponentField, spacingExp, size, encode, sign, magnitude, pattern, infinity, largest, finite, magnitudeOf, origin, position, distance}
+use Rattle.meaning.specs.Readings.{exponentField, spacingExp, size, encode, sign, magnitude, pattern, infinity, finite, magnitudeOf, origin, position, distance}
 use Rattle.meaning.proofs.Sizes.{Form, form, size-form, size-le, size-mono, encode-mono, encode-size, encode-floor}
 
 module _ (F X : ℕ) where

@@ -52,7 +52,7 @@ pub record AfterPack : Type 0 where
   pub references : List ℕ
   pub exponents : List ℤ
 
--- E, from -149 on, for an exponent counted in least spacings; and the layer of a stored reference and E
+-- E of an exponent counted from -149; and the layer of a stored reference and E
 unfoldable pub storedExponent : Layer → ℤ
 storedExponent l = subℕ (l .exponent) 149
 

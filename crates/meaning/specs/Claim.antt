@@ -3,14 +3,14 @@ use mathlib.Core.Path.{_≡_}
 use mathlib.Core.Logic.{_↔_, _≢_}
 use mathlib.Core.Bool.{Bool, true, false, _||_}
 use mathlib.Core.List.{List, []}
-use Prim.Native.Nat.{ℕ, _+_, _*_, _/_, _^_, _≤_, _<_}
+use Prim.Native.Nat.{ℕ, _+_, _*_, _/_, _^_, _<_}
 use lib.IntN.{ℤ, pos, negℤ}
 use lib.ListN.{length, getD, take, drop}
 use lib.Signed.{ltZ}
 use Rattle.meaning.specs.Readings.{sign, magnitude, finite, magnitudeOf, origin, position, distance}
 use Rattle.meaning.specs.Methods.{Method, tail, round, absolute, digits, trimmable}
 use Rattle.meaning.specs.Layers.{Layer, holds, summary, span, codeMeaning}
-use Rattle.meaning.specs.Questions.{Outcome, accepted, between, above, all}
+use Rattle.meaning.specs.Questions.{accepted, between, above, all}
 use Rattle.meaning.specs.Calls.{Call, AfterPack, inTurn, acceptedCalls, largestUnit, pack, storedLayer}
 
 -- "only roundings, to keep bits and absolute steps in any mixture"

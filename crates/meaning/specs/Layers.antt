@@ -1,4 +1,5 @@
--- Document 01, "Layers". Codes have b bits, 16 in document 01; exponents are counted in least spacings, so that -149 to 114 are 0 to 263.
+-- Document 01, "Layers". Codes have b bits, 16 in document 01; exponents are counted from -149, so that E in -149 to 114
+-- is 0 to 263 here and the step is 2 ^ exponent least spacings.
 use mathlib.Core.Bool.{Bool, cond}
 use mathlib.Core.List.{List, [], _∷_, map, flatMap, zipWith, flatten}
 use Prim.Native.Nat.{ℕ, zero, suc, _+_, _-_, _*_, _/_, _^_}
@@ -12,6 +13,12 @@ pub data Summary : Type 0 where
   Nothing : Summary
   Flat : ℕ → Summary
   Spread : ℕ → ℕ → Summary
+
+-- "Reference R: the smallest present value; +0 if nothing is present."
+unfoldable pub smallest : Summary → ℕ
+smallest Nothing = 0
+smallest (Flat a) = a
+smallest (Spread a z) = a
 
 -- What a layer's codes are counted from and in: the reference R, a pattern, and the step exponent E.
 pub record Layer : Type 0 where
@@ -29,7 +36,7 @@ lastCode b = 2 ^ b - 2
 unfoldable pub holds : ℕ → ℕ → ℕ → Bool
 holds b span e = leb span (lastCode b * 2 ^ e)
 
--- the least exponent from e on that holds the span, of at most `more` after it
+-- the least exponent from e on that holds the span, of at most `more` after it; the last of them where none holds it, which packing never meets
 unfoldable pub leastFrom : ℕ → ℕ → ℕ → ℕ → ℕ
 leastFrom b span zero e = e
 leastFrom b span (suc more) e = let later = leastFrom b span more (suc e) in cond (holds b span e) e later
@@ -65,12 +72,6 @@ module _ (F X : ℕ) where
   summary mark [] = Nothing
   summary mark (w ∷ ws) = let rest = summary mark ws in cond (missing mark w) rest (widened (plusZero w) rest)
 
-  -- "Reference R: the smallest present value; +0 if nothing is present."
-  unfoldable pub smallest : Summary → ℕ
-  smallest Nothing = 0
-  smallest (Flat a) = a
-  smallest (Spread a z) = a
-
   -- "Span: largest minus smallest, and 0 if nothing is present."
   unfoldable pub span : Summary → ℕ
   span Nothing = 0
@@ -104,7 +105,8 @@ module _ (F X : ℕ) where
 unfoldable pub nearestMagnitude : ℕ → ℕ
 nearestMagnitude n = let g = spacing 52 (magnitudeOf 52 11 n) in magnitudeOf 52 11 (nearest n g * g)
 
--- The double nearest to a position of singles. A least spacing of singles is 2 ^ (1074 - 149) of doubles; an exact zero is +0.
+-- The double nearest to a position of singles. A least spacing of singles is 2 ^ (1074 - 149) of doubles. An exact zero is +0,
+-- as in IEEE 754 the sum of a product that is +0 and a zero of either sign is, and that of x and -x.
 unfoldable pub nearestDouble : ℕ → ℕ
 nearestDouble p =
     let scale = 2 ^ (leastExp 52 11 - leastExp 23 8) in

@@ -1,5 +1,5 @@
 -- Document 01, "Seven methods": on one reading, and on an array with its four counts. A method works on magnitudes; the sign never changes.
-use mathlib.Core.Bool.{Bool, true, false, cond, not, _&&_}
+use mathlib.Core.Bool.{Bool, false, cond, not, _&&_}
 use mathlib.Core.List.{List, [], _∷_}
 use Prim.Native.Nat.{ℕ, zero, suc, _+_, _-_, _*_, _/_, _%_, _^_}
 use lib.Dec.{leb, ltb, eqb}
@@ -9,7 +9,8 @@ use Rattle.meaning.specs.Readings.{size, spacing, sign, magnitude, patte
 pub data TailMethod : Type 0 where
   shave set groom halfshave : TailMethod
 
--- An accepted method with its setting: the keep bits k; the exponent of the unit 2^p, counted in least spacings (p + 149 or p + 1074); the number n of digits.
+-- An accepted method with its setting: the keep bits k; the exponent p of the unit, counted from that of the least spacing (p + 149 or p + 1074), so that
+-- the unit is 2 ^ q least spacings; the number n of digits.
 pub data Method : Type 0 where
   tail : TailMethod → ℕ → Method
   round : ℕ → Method
@@ -47,7 +48,8 @@ unfoldable pub rounded : ℕ → ℕ → ℕ
 rounded t m = nearest m (2 ^ t) * 2 ^ t
 
 module _ (F : ℕ) where
-  -- "the unit is 2^t spacings", and 2^p for method 5, at a magnitude and in least spacings. Digits has none, and stands in no list of demand 3.
+  -- "the unit is 2^t spacings", and 2^p for method 5, at a magnitude and in least spacings. Digits has none: accepted, it stands in
+  -- no list of demand 3.
   unfoldable pub unit : Method → ℕ → ℕ
   unit (tail c k) m = 2 ^ (F - k) * spacing F m
   unit (round k) m = 2 ^ (F - k) * spacing F m
@@ -125,7 +127,7 @@ module _ (F X : ℕ) where
 
   -- ---- an array
 
-  -- "missing readings count as places": the place after that of the reading w
+  -- "missing readings count as places": the place after that of the reading w, whatever w is
   unfoldable pub placeAfter : ℕ → ℕ → ℕ → ℕ
   placeAfter mark w place = suc place
 

@@ -1,5 +1,5 @@
--- Document 01, "Questions before work begins": from a call's inputs to its outcome. Question 9 stands with the program's text.
-use mathlib.Core.Bool.{Bool, true, cond, not, _&&_, _||_}
+-- Document 01, "Questions before work begins": from a call's inputs to its outcome. Question 9 will stand with the program's text.
+use mathlib.Core.Bool.{Bool, true, cond, _&&_, _||_}
 use mathlib.Core.List.{List, [], _∷_}
 use Prim.Native.Nat.{ℕ, suc, _+_, _-_, _/_, _%_, _^_}
 use lib.Dec.{leb, ltb, eqb}
@@ -21,7 +21,7 @@ ask answer number rest = cond answer rest (refused number)
 abbrev pub between : ℤ → ℤ → ℤ → Bool
 between low z high = leZ low z && leZ z high
 
--- z counted from -n
+-- z counted from -n, for z from -n on
 unfoldable pub above : ℕ → ℤ → ℕ
 above n (pos k) = n + k
 above n (negsuc k) = n - suc k
@@ -39,7 +39,7 @@ module _ (F X : ℕ) where
       (cond (eqb method 5) (between (negℤ (pos (leastExp F X))) setting (pos (2 ^ (X - 1) - 1)))
       (between (pos 1) setting (pos (digitCount 10 (2 ^ suc F) - 1))))
 
-  -- "A method has a number and a signed setting."
+  -- "A method has a number and a signed setting." Asked only of a known method and a setting in range.
   unfoldable pub methodOf : ℕ → ℤ → Method
   methodOf method setting =
       cond (eqb method 0) (tail shave (natAbs setting))

@@ -30,7 +30,7 @@ module _ (F : ℕ) where
   encode (suc fuel) n = let further = 2 ^ F + encode fuel (n / 2) in cond (ltb n (2 * 2 ^ F)) n further
 
 module _ (F X : ℕ) where
-  -- "sign", 0 or 1
+  -- "sign": 0 or 1 of a pattern of the width
   unfoldable pub sign : ℕ → ℕ
   sign w = w / 2 ^ (F + X)
 
@@ -53,7 +53,7 @@ module _ (F X : ℕ) where
   unfoldable pub finite : ℕ → Bool
   finite w = ltb (magnitude w) infinity
 
-  -- the largest magnitude whose size is at most n: for the size of a finite magnitude that magnitude itself
+  -- for a number below the size of the infinities the largest magnitude whose size is at most that number: for the size of a finite magnitude, that magnitude
   unfoldable pub magnitudeOf : ℕ → ℕ
   magnitudeOf n = encode F (2 ^ X) n
 

@@ -9,7 +9,7 @@ use Rattle.meaning.specs.Methods.{unit}
 use Rattle.meaning.specs.Layers.{Nothing, Flat, Spread}
 use Rattle.meaning.specs.Questions.{refused}
 use Rattle.meaning.specs.Calls.{Call}
-use Rattle.meaning.proofs.Rows.{call, shave, set, groom, halfshave, round, absolute, digits, afterAll, after, answer, counting, loads, packed, layer, summed, unpacked, doubles}
+use Rattle.meaning.proofs.CasesRows.{call, shave, set, groom, halfshave, round, absolute, digits, afterAll, after, answer, counting, loads, packed, layer, summed, unpacked, doubles}
 
 -- what a list of calls leaves of a double; the mark is a NaN
 afterDouble : List Call → ℕ → List ℕ
@@ -39,6 +39,7 @@ pub record Edges : Type 0 where
   -- ---- a tie whose even side lies beyond the largest finite value clips, and is counted
   tie-clips : (after (round 7 ∷ []) 0x7F7F8000 ≡ 0x7F7F0000) × (answer 23 8 0x7CF00000 (round 7) (0x7F7F8000 ∷ []) ≡ counting 1 0 1 0)
   absolute-clips : (after (absolute 127 ∷ []) 0x7F400000 ≡ 0x7F000000) × (answer 23 8 0x7CF00000 (absolute 127) (0x7F400000 ∷ []) ≡ counting 1 0 1 0)
+  -- ---- but round 0 of 7F400000 goes to the even 7F000000 below it, and doesn't clip
   tie-stays : (after (round 0 ∷ []) 0x7F400000 ≡ 0x7F000000) × (answer 23 8 0x7CF00000 (round 0) (0x7F400000 ∷ []) ≡ counting 1 0 0 0)
   -- ---- clip comes before spare: the old pattern, counted as spared alone
   clip-spare : (singles 0x7F7F0000 (round 7 ∷ []) (0x7F7FFFFF ∷ []) ≡ 0x7F7FFFFF ∷ []) × (answer 23 8 0x7F7F0000 (round 7) (0x7F7FFFFF ∷ []) ≡ counting 0 1 0 0)

@@ -4,7 +4,7 @@ use mathlib.Core.Path.{_≡_, refl}
 use mathlib.Core.List.{[], _∷_}
 use Prim.Native.Nat.{ℕ}
 use lib.IntN.{ℤ, pos, negℤ}
-use Rattle.meaning.proofs.Rows.{settings, packing, unpacking}
+use Rattle.meaning.proofs.CasesRows.{settings, packing, unpacking}
 
 abbrev minus : ℕ → ℤ
 minus n = negℤ (pos n)
