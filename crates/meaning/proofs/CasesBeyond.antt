@@ -1,11 +1,11 @@
 -- Why demand 3 says no more than it does: closed cases, computed, in which each stronger claim fails. Positions, distances and units are in least spacings.
 use mathlib.Core.Path.{_≡_, refl}
-use mathlib.Core.Bool.{Bool, true, false, cond}
+use mathlib.Core.Bool.{Bool, true, false}
 use mathlib.Core.List.{List, [], _∷_}
 use Prim.Native.Nat.{ℕ, _+_, _*_, _^_, _≤_, _<_}
 use native.Mathlib.Omega.{arith}
 use lib.Dec.{ltb, lit≤}
-use lib.IntN.{ℤ, pos}
+use lib.IntN.{pos}
 use Rattle.meaning.specs.Readings
 use Rattle.meaning.specs.Readings.{magnitude, position, distance}
 use Rattle.meaning.specs.Methods.{unit}

@@ -4,11 +4,12 @@ use mathlib.Core.Path.{_≡_, refl}
 use mathlib.Core.List.{List, [], _∷_}
 use Prim.Native.Nat.{ℕ, _+_, _^_}
 use lib.IntN.{ℤ, pos, negℤ}
+use lib.ListN.{length, take}
 use Rattle.meaning.specs.Methods
 use Rattle.meaning.specs.Methods.{unit}
 use Rattle.meaning.specs.Layers.{Nothing, Flat, Spread}
-use Rattle.meaning.specs.Questions.{refused}
-use Rattle.meaning.specs.Calls.{Call}
+use Rattle.meaning.specs.Questions.{refused, accepted}
+use Rattle.meaning.specs.Calls.{Call, AfterPack, AfterUnpack, pack, unpack}
 use Rattle.meaning.proofs.CasesRows.{call, shave, set, groom, halfshave, round, absolute, digits, afterAll, after, answer, counting, loads, packed, layer, summed, unpacked, doubles}
 
 -- what a list of calls leaves of a double; the mark is a NaN
@@ -20,6 +21,18 @@ afterDouble cs w = afterAll 52 11 0x7FF80000_00000000 cs (w ∷ [])
 singles : ℕ → List Call → List ℕ → List ℕ
 unfolding afterAll
 singles mark cs ws = afterAll 23 8 mark cs ws
+
+-- singles packed into layers of L, from four codes, two references and two exponents before; and codes unpacked
+packs : ℕ → List ℕ → AfterPack
+unfolding afterAll
+packs L ws = pack 0x7CF00000 L ws (take (length ws) (7 ∷ 7 ∷ 7 ∷ 7 ∷ [])) (8 ∷ 8 ∷ []) (pos 9 ∷ pos 9 ∷ [])
+
+abbrev leaves : List ℕ → List ℕ → List ℤ → AfterPack
+leaves cs rs es = record { answer = accepted tt; codes = cs; references = rs; exponents = es }
+
+unpacks : ℕ → ℕ → List ℕ → List ℕ → List ℤ → List ℕ → AfterUnpack
+unfolding afterAll
+unpacks mark L cs rs es ws = unpack mark L cs rs es ws
 
 abbrev pi : ℕ
 pi = 0x400921FB_54442D18
@@ -84,9 +97,23 @@ pub record Edges : Type 0 where
   unpack-least : unpacked 0x00000001 (negℤ (pos 149)) (0 ∷ 1 ∷ []) ≡ doubles (0x36A00000_00000000 ∷ 0x36B00000_00000000 ∷ [])
   unpack-tie : unpacked 0x25000000 (pos 0) (1 ∷ []) ≡ doubles (0x3FF00000_00000000 ∷ [])
   unpack-up : unpacked 0x25800000 (pos 0) (1 ∷ []) ≡ doubles (0x3FF00000_00000001 ∷ [])
+  -- 2^-53 and a little more, and three times it, beside 1: up to the next double, and to the even one
+  unpack-above : unpacked 0x25000001 (pos 0) (1 ∷ []) ≡ doubles (0x3FF00000_00000001 ∷ [])
+  unpack-even : unpacked 0x25C00000 (pos 0) (1 ∷ []) ≡ doubles (0x3FF00000_00000002 ∷ [])
+  -- ---- two layers in one call, each with its own reference and step
+  pack-layers : packs 2 (0x3F800000 ∷ 0x40000000 ∷ 0x7CF00000 ∷ 0x40400000 ∷ []) ≡ leaves (0 ∷ 32768 ∷ 65535 ∷ 0 ∷ []) (0x3F800000 ∷ 0x40400000 ∷ []) (negℤ (pos 15) ∷ negℤ (pos 149) ∷ [])
+  unpack-layers : unpacks 0x7FF00000_0000ABCD 1 (1 ∷ 1 ∷ []) (0 ∷ 0x3F800000 ∷ []) (pos 0 ∷ pos 1 ∷ []) (1 ∷ 1 ∷ []) ≡ doubles (0x3FF00000_00000000 ∷ 0x40080000_00000000 ∷ [])
+  -- ---- refused packing and unpacking leave the arrays as they were
+  pack-refused : packs 1 (0x7F800000 ∷ 0x3F800000 ∷ []) ≡ record { answer = refused 6; codes = 7 ∷ 7 ∷ []; references = 8 ∷ 8 ∷ []; exponents = pos 9 ∷ pos 9 ∷ [] }
+  unpack-refused : unpacks 0 1 (0 ∷ []) (0 ∷ []) (pos 0 ∷ []) (7 ∷ []) ≡ record { answer = refused 8; readings = 7 ∷ [] }
+  -- ---- halfshaving groomed data differs where grooming gave zero, and where the mark is a halfshaved pattern
+  groomed-zero : (after (groom 7 ∷ halfshave 7 ∷ []) 0x00000001 ≡ 0x00000000) × (after (halfshave 7 ∷ []) 0x00000001 ≡ 0x00008000)
+  groomed-mark : (singles 0x40498000 (groom 7 ∷ halfshave 7 ∷ []) (0x40490FDB ∷ []) ≡ 0x40490000 ∷ []) × (singles 0x40498000 (halfshave 7 ∷ []) (0x40490FDB ∷ []) ≡ 0x40490FDB ∷ [])
+  -- ---- digits stays where its step is below two spacings
+  digits-stays : after (digits 7 ∷ []) 0x411FFFFF ≡ 0x411FFFFF
 
 pub edges : Edges
-unfolding afterDouble singles after answer unit loads packed summed unpacked
+unfolding afterDouble singles after answer packs unpacks unit loads packed summed unpacked
 edges =
     record {
       shave-double = refl;
@@ -131,4 +158,13 @@ edges =
       unpack-least = refl;
       unpack-tie = refl;
       unpack-up = refl;
+      unpack-above = refl;
+      unpack-even = refl;
+      pack-layers = refl;
+      unpack-layers = refl;
+      pack-refused = refl;
+      unpack-refused = refl;
+      groomed-zero = (refl, refl);
+      groomed-mark = (refl, refl);
+      digits-stays = refl;
     }

@@ -1,7 +1,7 @@
 -- The nearest whole number, ties to even: its three cases, and what follows from them alone. Methods 4 and 5, the codes and unpacking all round by it.
 use mathlib.Core.Path.{_≡_, refl, sym, ap, _∙_}
-use Prim.Native.Nat.{ℕ, zero, suc, _+_, _*_, _/_, _%_, _≤_, _<_}
-use native.Mathlib.Nat.{div-add-mod', mod-lt, le-div-iff-mul-le, div-lt-iff-lt-mul, div-mul-le-self, lt-of-mul-lt-mul-right, mul-lt-mul-of-pos-right, mul-assoc, mul-div-mul-right, mul-mod-left, mul-div-cancel}
+use Prim.Native.Nat.{ℕ, zero, suc, _+_, _-_, _*_, _/_, _%_, _≤_, _<_}
+use native.Mathlib.Nat.{div-add-mod', mod-lt, le-div-iff-mul-le, div-lt-iff-lt-mul, div-eq-of-lt-le, div-mul-le-self, lt-of-mul-lt-mul-right, mul-lt-mul-of-pos-right, mul-assoc, mul-div-mul-right, mul-mod-left, mul-div-cancel}
 use native.Mathlib.Decide.{decLt}
 use native.Mathlib.Omega.{arith}
 use borrow.Author.Tests.{lt-ltb, le-ltb}
@@ -96,3 +96,33 @@ nearest-scale n g k p l = go (decLt (2 * (n % g)) g) (decLt g (2 * (n % g)))
     go (no h) (no x) =
         let e : g ≡ 2 * (n % g) = omega arith in
         nearest-tie (n * k) (g * k) (rw m (ap (λ (y : ℕ). y * k) e ∙ mul-assoc 2 (n % g) k)) ∙ ap (λ (y : ℕ). y + y % 2) d ∙ sym (nearest-tie n g e)
+
+-- By one sum: with g = 2 * H, add H - 1, and one more where the quotient is odd, and cut.
+pub nearest-add : (n H : ℕ) → 0 < H → nearest n (2 * H) ≡ (n + (H - 1) + n / (2 * H) % 2) / (2 * H)
+nearest-add n H p = go (decLt (n % (2 * H)) H) (decLt H (n % (2 * H)))
+  where
+    a : ℕ
+    a = n / (2 * H)
+
+    r : ℕ
+    r = n % (2 * H)
+
+    whole : a * (2 * H) + r ≡ n
+    whole = div-add-mod' n (2 * H)
+
+    less : r < 2 * H
+    less = mod-lt n (omega arith)
+
+    -- the quotient of the sum, where it lies between b and b + 1 units
+    is : (b e : ℕ) → b * (2 * H) ≤ n + (H - 1) + e → n + (H - 1) + e < (b + 1) * (2 * H) → b ≡ (n + (H - 1) + e) / (2 * H)
+    is b e x y = sym (div-eq-of-lt-le (2 * H) x y)
+
+    tie : r ≡ H → (e : ℕ) → e < 2 → a + e ≡ (n + (H - 1) + e) / (2 * H)
+    tie z zero l = is (a + 0) 0 (omega (arith, whole)) (omega (arith, whole))
+    tie z (suc zero) l = is (a + 1) 1 (omega (arith, whole)) (omega (arith, whole))
+    tie z (suc (suc e)) l = absurd (omega arith)
+
+    go : Dec (r < H) → Dec (H < r) → nearest n (2 * H) ≡ (n + (H - 1) + a % 2) / (2 * H)
+    go (yes h) x = nearest-down n (2 * H) (omega arith) ∙ is a (a % 2) (omega (arith, whole)) (omega (arith, whole))
+    go (no h) (yes k) = nearest-up n (2 * H) (omega arith) ∙ is (a + 1) (a % 2) (omega (arith, whole)) (omega (arith, whole, less))
+    go (no h) (no k) = nearest-tie n (2 * H) (omega arith) ∙ tie (omega arith) (a % 2) (omega arith)

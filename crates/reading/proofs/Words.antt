@@ -1,0 +1,109 @@
+-- Methods 0 to 4 on machine words: what the functions compute is what the definitions say, for every width.
+use mathlib.Core.Path.{_≡_, refl, sym, ap, _∙_, subst}
+use mathlib.Core.Bool.{Bool, true, false, cond}
+use Prim.Native.Nat.{ℕ, zero, suc, _+_, _-_, _*_, _/_, _%_, _^_, _≤_, _<_}
+use native.Mathlib.Nat.{div-add-mod', div-lt-iff-lt-mul, mul-le-mul-right}
+use native.Mathlib.Decide.{decLt}
+use native.Mathlib.Omega.{arith}
+use borrow.Author.Tests.{lt-ltb, le-ltb, lt-leb, le-leb}
+use lib.Dec.{ltb, leb, eqb}
+use lib.Pow.{pow-pos}
+use Rattle.meaning.specs.Readings.{sign, magnitude, pattern, infinity, finite}
+use Rattle.meaning.specs.Methods.{round, nearest, shaved, rounded, clips, newMagnitude}
+use Rattle.meaning.proofs.Powers.{pow-split}
+use Rattle.meaning.proofs.Nearest.{nearest-add}
+use Rattle.reading.specs.Left.{wanted, wantedBy, over, tailAdded}
+
+-- a tail of t bits fits above the cut
+pub floor-room : (w t m add : ℕ) → t ≤ w → m < 2 ^ w → add < 2 ^ t → m / 2 ^ t * 2 ^ t + add < 2 ^ w
+floor-room w t m add h l a =
+    let K : 2 ^ w ≡ 2 ^ (w - t) * 2 ^ t = pow-split w t h in
+    let q : m / 2 ^ t < 2 ^ (w - t) = div-lt-iff-lt-mul {k = 2 ^ t} {x = m} {y = 2 ^ (w - t)} (pow-pos t) .1 (omega (arith, K)) in
+    omega (arith, K, mul-le-mul-right (2 ^ t) q)
+
+-- method 4 by one sum and one cut
+pub rounded-sum : (t m H G r : ℕ) → 0 < t → H ≡ 2 ^ (t - 1) → G ≡ 2 ^ t → r ≡ (m + (H - 1) + m / G % 2) / G * G → r ≡ rounded t m
+unfolding rounded
+rounded-sum zero m H G r p h g e = absurd (omega arith)
+rounded-sum (suc t) m H G r p h g e =
+    let z : suc t - 1 ≡ t = omega arith in
+    let h' : H ≡ 2 ^ t = h ∙ ap (λ (x : ℕ). 2 ^ x) z in
+    let d : 2 ^ suc t ≡ 2 * H = rw h' (omega arith) in
+    let d' : G ≡ 2 * H = g ∙ d in
+    e ∙ rw (d', d) (ap (λ (x : ℕ). x * (2 * H)) (sym (nearest-add m H (omega (arith, pow-pos t)))))
+
+pub cond-lt : (b : Bool) (x y n : ℕ) → x < n → y < n → cond b x y < n
+cond-lt true x y n h k = h
+cond-lt false x y n h k = k
+
+-- u where it is below i, and s elsewhere
+pub chosen-lt : (u s i b : ℕ) → i ≤ b → s < b → cond (ltb u i) u s < b
+chosen-lt u s i b h k = go (decLt u i)
+  where
+    go : Dec (u < i) → cond (ltb u i) u s < b
+    go (yes l) = rw (lt-ltb u i l) (omega arith)
+    go (no l) = rw (le-ltb u i (omega arith)) k
+
+-- a cut by a unit that is a power of two
+pub cut : (t m U S : ℕ) → U ≡ 2 ^ t → S ≡ m / U * U → S ≡ shaved t m
+unfolding shaved
+cut t m U S u s = s ∙ ap (λ (x : ℕ). m / x * x) u
+
+-- and room for a tail above it
+pub cut-room : (w t m add U S : ℕ) → t ≤ w → m < 2 ^ w → add < 2 ^ t → U ≡ 2 ^ t → S ≡ m / U * U → S + add < 2 ^ w
+unfolding shaved
+cut-room w t m add U S h l a u s = subst (λ (x : ℕ). x + add < 2 ^ w) (sym (cut t m U S u s)) (floor-room w t m add h l a)
+
+module _ (F X : ℕ) where
+  -- the sign and a new magnitude, where the reading is finite
+  pub wanted-sum : (w n : ℕ) → cond (ltb (magnitude F X w) (infinity F X)) (w - magnitude F X w + n) w ≡ wanted F X w n
+  unfolding wanted finite pattern sign magnitude
+  wanted-sum w n = ap (λ (x : ℕ). cond (ltb (w % 2 ^ (F + X)) (infinity F X)) (x + n) w) (let e : w - w % 2 ^ (F + X) ≡ w / 2 ^ (F + X) * 2 ^ (F + X) = omega (arith, div-add-mod' w (2 ^ (F + X))) in e)
+
+  module _ (t m : ℕ) (h : t ≤ F) where
+    keep : F - (F - t) ≡ t
+    keep = omega arith
+
+    pub round-new : (place : ℕ) → cond (ltb (rounded t m) (infinity F X)) (rounded t m) (shaved t m) ≡ newMagnitude F X (round (F - t)) place m
+    unfolding newMagnitude clips
+    round-new place = rw keep (go (decLt (rounded t m) (infinity F X)))
+      where
+        go : Dec (rounded t m < infinity F X)
+            → cond (ltb (rounded t m) (infinity F X)) (rounded t m) (shaved t m) ≡ cond (leb (infinity F X) (rounded t m)) (shaved t m) (rounded t m)
+        go (yes l) = rw (lt-ltb (rounded t m) (infinity F X) l, lt-leb (infinity F X) (rounded t m) l) refl
+        go (no l) = rw (le-ltb (rounded t m) (infinity F X) (omega arith), le-leb (infinity F X) (rounded t m) (omega arith)) refl
+
+    pub round-over : _≡_ {A = ℕ} (cond (ltb (rounded t m) (infinity F X)) 0 1) (cond (clips F X (round (F - t)) m) 1 0)
+    unfolding clips
+    round-over = rw keep (go (decLt (rounded t m) (infinity F X)))
+      where
+        go : Dec (rounded t m < infinity F X) → _≡_ {A = ℕ} (cond (ltb (rounded t m) (infinity F X)) 0 1) (cond (leb (infinity F X) (rounded t m)) 1 0)
+        go (yes l) = rw (lt-ltb (rounded t m) (infinity F X) l, lt-leb (infinity F X) (rounded t m) l) refl
+        go (no l) = rw (le-ltb (rounded t m) (infinity F X) (omega arith), le-leb (infinity F X) (rounded t m) (omega arith)) refl
+
+  -- methods 0 to 3: the new pattern by the cut S
+  pub tail-word : (w t add U S N z : ℕ) → U ≡ 2 ^ t → S ≡ magnitude F X w / U * U → N ≡ cond (eqb (magnitude F X w) 0) (magnitude F X w) (S + add)
+      → z ≡ cond (ltb (magnitude F X w) (infinity F X)) (w - magnitude F X w + N) w → z ≡ wanted F X w (tailAdded t add (magnitude F X w))
+  unfolding tailAdded
+  tail-word w t add U S N z u s n e =
+      e ∙ ap (λ (x : ℕ). cond (ltb (magnitude F X w) (infinity F X)) (w - magnitude F X w + x) w)
+      (n ∙ ap (λ (x : ℕ). cond (eqb (magnitude F X w) 0) (magnitude F X w) (x + add)) (cut t (magnitude F X w) U S u s))
+      ∙ wanted-sum w (cond (eqb (magnitude F X w) 0) (magnitude F X w) (shaved t (magnitude F X w) + add))
+
+  -- method 4: the new pattern, and whether it is clipped, by the cut S and the sum cut
+  module _ (w t H U up S : ℕ) (l : 1 ≤ t) (h : t ≤ F) (hh : H ≡ 2 ^ (t - 1)) (uu : U ≡ 2 ^ t)
+      (pp : up ≡ (magnitude F X w + (H - 1) + magnitude F X w / U % 2) / U * U) (ss : S ≡ magnitude F X w / U * U) where
+    up-is : up ≡ rounded t (magnitude F X w)
+    up-is = rounded-sum t (magnitude F X w) H U up (omega arith) hh uu pp
+
+    pub round-word : (n z : ℕ) → n ≡ cond (ltb up (infinity F X)) up S → z ≡ cond (ltb (magnitude F X w) (infinity F X)) (w - magnitude F X w + n) w
+        → z ≡ wantedBy F X (round (F - t)) 0 w
+    unfolding wantedBy
+    round-word n z nn zz =
+        zz ∙ ap (λ (x : ℕ). cond (ltb (magnitude F X w) (infinity F X)) (w - magnitude F X w + x) w)
+        (nn ∙ rw (up-is, cut t (magnitude F X w) U S uu ss) (round-new t (magnitude F X w) h 0))
+        ∙ wanted-sum w (newMagnitude F X (round (F - t)) 0 (magnitude F X w))
+
+    pub over-word : (o : ℕ) → o ≡ cond (ltb up (infinity F X)) 0 1 → o ≡ over F X (round (F - t)) w
+    unfolding over
+    over-word o oo = oo ∙ rw up-is (round-over t (magnitude F X w) h)

@@ -1,0 +1,29 @@
+-- Each choice is what the definition says, in turn.
+use Rattle.reading.specs.Left.{unlessMissing, leftFrom, singleFrom}
+use Rattle.reading.proofs.settle_single.Statement.{statement}
+use Rattle.reading.proofs.settle_single.Tie as tie
+
+choose-single-requires : tie.Need-choose-single-requires
+choose-single-requires c κs = tt
+
+choose-single-requires-2 : tie.Need-choose-single-requires-2
+choose-single-requires-2 c κs = tt
+
+choose-single-requires-3 : tie.Need-choose-single-requires-3
+choose-single-requires-3 c κs = tt
+
+choose-single-requires-4 : tie.Need-choose-single-requires-4
+choose-single-requires-4 c κs = tt
+
+choose-single-requires-5 : tie.Need-choose-single-requires-5
+choose-single-requires-5 c κs = tt
+
+choose-single-requires-6 : tie.Need-choose-single-requires-6
+choose-single-requires-6 c κs = tt
+
+returns : tie.Need-returns
+unfolding singleFrom leftFrom unlessMissing
+returns c = simp (c .choose-single6 .ensures, c .before .choose-single5 .ensures, c .before .before .choose-single4 .ensures, c .before .before .before .choose-single3 .ensures, c .before .before .before .before .choose-single2 .ensures, c .before .before .before .before .before .choose-single .ensures)
+
+pub settle-single-spec : {M : Type 1} → statement M
+settle-single-spec = tie.close (tie.spec choose-single-requires choose-single-requires-2 choose-single-requires-3 choose-single-requires-4 choose-single-requires-5 choose-single-requires-6 returns)

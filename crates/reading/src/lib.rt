@@ -1,0 +1,183 @@
+// One reading: the pattern that is left of it and what it counts for, by methods 0 to 4, in both widths. Everything is computed first and chosen last, so that a loop
+// over these functions has no branch on the data. Internal: the calls open to users are those of the crates above.
+ghost use mathlib.Core.Path.{_≡_};
+ghost use mathlib.Core.Bool.{cond};
+ghost use Prim.Native.Nat.{_-_, _/_, _*_, _^_, _<_, _≤_};
+ghost use lib.Dec.{eqb, ltb};
+ghost use Rattle.meaning.specs.Readings.{magnitude, infinity};
+ghost use Rattle.meaning.specs.Methods.{round};
+ghost use Rattle.reading.specs.Left.{singleFrom, doubleFrom, singleBy, doubleBy, wanted, tailAdded};
+
+// What is left of a single, and four numbers of 0 or 1: whether it is changed, whether it or its result is the mark, whether it is clipped, whether it is missing.
+pub struct Single {
+    pub pattern: u32,
+    pub changed: u32,
+    pub marked: u32,
+    pub clipped: u32,
+    pub missing: u32,
+}
+
+// The same of a double.
+pub struct Double {
+    pub pattern: u64,
+    pub changed: u64,
+    pub marked: u64,
+    pub clipped: u64,
+    pub missing: u64,
+}
+
+// `yes` where a and b are equal, `no` where they differ.
+pub fn choose_single(a: u32, b: u32, yes: u32, no: u32) -> u32
+    ensures { λ r. ⌜ r ≡ cond (eqb a b) yes no ⌝ }
+{
+    if a == b { yes } else { no }
+}
+
+pub fn choose_double(a: u64, b: u64, yes: u64, no: u64) -> u64
+    ensures { λ r. ⌜ r ≡ cond (eqb a b) yes no ⌝ }
+{
+    if a == b { yes } else { no }
+}
+
+// The reading x whose new pattern would be z: x itself where it is missing or z is the mark. `over` is 1 where z is clipped.
+pub fn settle_single(x: u32, z: u32, over: u32, mark: u32) -> Single
+    ensures { λ r. ⌜ r ≡ singleFrom mark x z over ⌝ }
+{
+    let y = choose_single(x, mark, x, z);
+    let p = choose_single(y, mark, x, y);
+    let changed = choose_single(p, x, 0, 1);
+    let marked = choose_single(y, mark, 1, 0);
+    let clipped = choose_single(p, x, 0, over);
+    let missing = choose_single(x, mark, 1, 0);
+    Single {
+        pattern: p,
+        changed,
+        marked,
+        clipped,
+        missing,
+    }
+}
+
+pub fn settle_double(x: u64, z: u64, over: u64, mark: u64) -> Double
+    ensures { λ r. ⌜ r ≡ doubleFrom mark x z over ⌝ }
+{
+    let y = choose_double(x, mark, x, z);
+    let p = choose_double(y, mark, x, y);
+    let changed = choose_double(p, x, 0, 1);
+    let marked = choose_double(y, mark, 1, 0);
+    let clipped = choose_double(p, x, 0, over);
+    let missing = choose_double(x, mark, 1, 0);
+    Double {
+        pattern: p,
+        changed,
+        marked,
+        clipped,
+        missing,
+    }
+}
+
+// 2^t.
+fn power_single(t: u32) -> u32
+    requires { ⌜ t ≤ 23 ⌝ }
+    ensures { λ r. ⌜ r ≡ 2 ^ t ⌝ }
+{
+    1u32 << t
+}
+
+// m cut down to a multiple of `unit`.
+fn floor_single(m: u32, unit: u32) -> u32
+    requires { ⌜ 0 < unit ⌝ }
+    ensures { λ r. ⌜ r ≡ m / unit * unit ⌝ }
+{
+    m / unit * unit
+}
+
+// `yes` where m is a finite magnitude, `no` where it isn't.
+pub fn below_single(m: u32, yes: u32, no: u32) -> u32
+    ensures { λ r. ⌜ r ≡ cond (ltb m (infinity 23 8)) yes no ⌝ }
+{
+    if m < 0x7f80_0000 { yes } else { no }
+}
+
+// Methods 0 to 3: the tail of t bits becomes `add`, and zero stays.
+pub fn tail_single(x: u32, t: u32, add: u32, mark: u32) -> Single
+    requires { ⌜ (t ≤ 23) × (add < 2 ^ t) ⌝ }
+    ensures { λ r. ⌜ r ≡ singleFrom mark x (wanted 23 8 x (tailAdded t add (magnitude 23 8 x))) 0 ⌝ }
+{
+    let m = x % 0x8000_0000;
+    let unit = power_single(t);
+    let s = floor_single(m, unit);
+    let n = choose_single(m, 0, m, s + add);
+    let z = below_single(m, (x - m) + n, x);
+    settle_single(x, z, 0, mark)
+}
+
+// Method 4 with a tail of t bits, not none: half a unit less one is added, and one more where the bit above the tail is one; then the tail is cut off.
+pub fn round_single(x: u32, t: u32, mark: u32) -> Single
+    requires { ⌜ (1 ≤ t) × (t ≤ 23) ⌝ }
+    ensures { λ r. ⌜ r ≡ singleBy (round (23 - t)) mark 0 x ⌝ }
+{
+    let m = x % 0x8000_0000;
+    let unit = power_single(t);
+    let half = power_single(t - 1);
+    let odd = m / unit % 2;
+    let up = floor_single(m + (half - 1) + odd, unit);
+    let s = floor_single(m, unit);
+    let n = below_single(up, up, s);
+    let over = below_single(up, 0, 1);
+    let z = below_single(m, (x - m) + n, x);
+    settle_single(x, z, over, mark)
+}
+
+// 2^t.
+fn power_double(t: u32) -> u64
+    requires { ⌜ t ≤ 52 ⌝ }
+    ensures { λ r. ⌜ r ≡ 2 ^ t ⌝ }
+{
+    1u64 << t
+}
+
+// m cut down to a multiple of `unit`.
+fn floor_double(m: u64, unit: u64) -> u64
+    requires { ⌜ 0 < unit ⌝ }
+    ensures { λ r. ⌜ r ≡ m / unit * unit ⌝ }
+{
+    m / unit * unit
+}
+
+// `yes` where m is a finite magnitude, `no` where it isn't.
+pub fn below_double(m: u64, yes: u64, no: u64) -> u64
+    ensures { λ r. ⌜ r ≡ cond (ltb m (infinity 52 11)) yes no ⌝ }
+{
+    if m < 0x7ff0_0000_0000_0000 { yes } else { no }
+}
+
+// Methods 0 to 3: the tail of t bits becomes `add`, and zero stays.
+pub fn tail_double(x: u64, t: u32, add: u64, mark: u64) -> Double
+    requires { ⌜ (t ≤ 52) × (add < 2 ^ t) ⌝ }
+    ensures { λ r. ⌜ r ≡ doubleFrom mark x (wanted 52 11 x (tailAdded t add (magnitude 52 11 x))) 0 ⌝ }
+{
+    let m = x % 0x8000_0000_0000_0000;
+    let unit = power_double(t);
+    let s = floor_double(m, unit);
+    let n = choose_double(m, 0, m, s + add);
+    let z = below_double(m, (x - m) + n, x);
+    settle_double(x, z, 0, mark)
+}
+
+// Method 4 with a tail of t bits, not none: half a unit less one is added, and one more where the bit above the tail is one; then the tail is cut off.
+pub fn round_double(x: u64, t: u32, mark: u64) -> Double
+    requires { ⌜ (1 ≤ t) × (t ≤ 52) ⌝ }
+    ensures { λ r. ⌜ r ≡ doubleBy (round (52 - t)) mark 0 x ⌝ }
+{
+    let m = x % 0x8000_0000_0000_0000;
+    let unit = power_double(t);
+    let half = power_double(t - 1);
+    let odd = m / unit % 2;
+    let up = floor_double(m + (half - 1) + odd, unit);
+    let s = floor_double(m, unit);
+    let n = below_double(up, up, s);
+    let over = below_double(up, 0, 1);
+    let z = below_double(m, (x - m) + n, x);
+    settle_double(x, z, over, mark)
+}
