@@ -1,0 +1,151 @@
+// Trimming an array in place: each method's loop, in both widths. The loops over singles run in blocks, so that 32-bit counters serve and LLVM can work on four
+// readings at once.
+ghost use mathlib.Core.Path.{_≡_};
+ghost use Prim.Native.Nat.{_-_, _^_, _<_, _≤_};
+ghost use lib.ListN.{length};
+ghost use Rattle.meaning.specs.Methods.{round};
+ghost use Rattle.reading.specs.Left.{singleBy, doubleBy};
+ghost use Rattle.trim.specs.Walk.{singlesLeft, singlesSummed, doublesLeft, doublesSummed, addAt, tailSingle, tailDouble};
+
+// The sums over a block of singles: places changed, places where the reading or its result is the mark, places clipped, places missing.
+pub struct Block {
+    pub changed: u32,
+    pub marked: u32,
+    pub clipped: u32,
+    pub missing: u32,
+}
+
+// The same sums over a whole array.
+pub struct Totals {
+    pub changed: u64,
+    pub marked: u64,
+    pub clipped: u64,
+    pub missing: u64,
+}
+
+// `even` at even places, `odd` at odd ones.
+fn single_at(place: usize, even: u32, odd: u32) -> u32
+    ensures { λ r. ⌜ r ≡ addAt even odd place ⌝ }
+{
+    if place % 2 == 0 { even } else { odd }
+}
+
+fn double_at(place: usize, even: u64, odd: u64) -> u64
+    ensures { λ r. ⌜ r ≡ addAt even odd place ⌝ }
+{
+    if place % 2 == 0 { even } else { odd }
+}
+
+// Methods 0 to 3 over a block of singles: the tail of t bits becomes `even` or `odd`.
+fn tail_singles(readings: &mut [u32], t: u32, even: u32, odd: u32, mark: u32) -> Block
+    requires { ⌜ (t ≤ 23) × ((even < 2 ^ t) × ((odd < 2 ^ t) × (length (now readings) ≤ 65536))) ⌝ }
+    ensures sums { λ r. ⌜ r ≡ singlesSummed (tailSingle t even odd mark) (now (readings .entry)) ⌝ }
+    ensures content { λ _. ⌜ now (readings .exit) ≡ singlesLeft (tailSingle t even odd mark) (now (readings .entry)) ⌝ }
+{
+    let mut changed: u32 = 0;
+    let mut marked: u32 = 0;
+    let mut clipped: u32 = 0;
+    let mut missing: u32 = 0;
+    let mut i: usize = 0;
+    while i < readings.len() {
+        let add = single_at(i, even, odd);
+        let one = reading::tail_single(readings[i], t, add, mark);
+        readings[i] = one.pattern;
+        changed += one.changed;
+        marked += one.marked;
+        clipped += one.clipped;
+        missing += one.missing;
+        i += 1;
+    }
+    Block {
+        changed,
+        marked,
+        clipped,
+        missing,
+    }
+}
+
+// Method 4 over a block of singles, with a tail of t bits, not none.
+fn round_singles(readings: &mut [u32], t: u32, mark: u32) -> Block
+    requires { ⌜ ((1 ≤ t) × (t ≤ 23)) × (length (now readings) ≤ 65536) ⌝ }
+    ensures sums { λ r. ⌜ r ≡ singlesSummed (λ i w. singleBy (round (23 - t)) mark 0 w) (now (readings .entry)) ⌝ }
+    ensures content { λ _. ⌜ now (readings .exit) ≡ singlesLeft (λ i w. singleBy (round (23 - t)) mark 0 w) (now (readings .entry)) ⌝ }
+{
+    let mut changed: u32 = 0;
+    let mut marked: u32 = 0;
+    let mut clipped: u32 = 0;
+    let mut missing: u32 = 0;
+    let mut i: usize = 0;
+    while i < readings.len() {
+        let one = reading::round_single(readings[i], t, mark);
+        readings[i] = one.pattern;
+        changed += one.changed;
+        marked += one.marked;
+        clipped += one.clipped;
+        missing += one.missing;
+        i += 1;
+    }
+    Block {
+        changed,
+        marked,
+        clipped,
+        missing,
+    }
+}
+
+// Methods 0 to 3 over doubles: the tail of t bits becomes `even` or `odd`.
+fn tail_doubles(readings: &mut [u64], t: u32, even: u64, odd: u64, mark: u64) -> Totals
+    requires { ⌜ (t ≤ 52) × ((even < 2 ^ t) × (odd < 2 ^ t)) ⌝ }
+    ensures sums { λ r. ⌜ r ≡ doublesSummed (tailDouble t even odd mark) (now (readings .entry)) ⌝ }
+    ensures content { λ _. ⌜ now (readings .exit) ≡ doublesLeft (tailDouble t even odd mark) (now (readings .entry)) ⌝ }
+{
+    let mut changed: u64 = 0;
+    let mut marked: u64 = 0;
+    let mut clipped: u64 = 0;
+    let mut missing: u64 = 0;
+    let mut i: usize = 0;
+    while i < readings.len() {
+        let add = double_at(i, even, odd);
+        let one = reading::tail_double(readings[i], t, add, mark);
+        readings[i] = one.pattern;
+        changed += one.changed;
+        marked += one.marked;
+        clipped += one.clipped;
+        missing += one.missing;
+        i += 1;
+    }
+    Totals {
+        changed,
+        marked,
+        clipped,
+        missing,
+    }
+}
+
+// Method 4 over doubles, with a tail of t bits, not none.
+fn round_doubles(readings: &mut [u64], t: u32, mark: u64) -> Totals
+    requires { ⌜ (1 ≤ t) × (t ≤ 52) ⌝ }
+    ensures sums { λ r. ⌜ r ≡ doublesSummed (λ i w. doubleBy (round (52 - t)) mark 0 w) (now (readings .entry)) ⌝ }
+    ensures content { λ _. ⌜ now (readings .exit) ≡ doublesLeft (λ i w. doubleBy (round (52 - t)) mark 0 w) (now (readings .entry)) ⌝ }
+{
+    let mut changed: u64 = 0;
+    let mut marked: u64 = 0;
+    let mut clipped: u64 = 0;
+    let mut missing: u64 = 0;
+    let mut i: usize = 0;
+    while i < readings.len() {
+        let one = reading::round_double(readings[i], t, mark);
+        readings[i] = one.pattern;
+        changed += one.changed;
+        marked += one.marked;
+        clipped += one.clipped;
+        missing += one.missing;
+        i += 1;
+    }
+    Totals {
+        changed,
+        marked,
+        clipped,
+        missing,
+    }
+}
