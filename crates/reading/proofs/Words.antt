@@ -5,14 +5,14 @@ use Prim.Native.Nat.{ℕ, zero, suc, _+_, _-_, _*_, _/_, _%_, _^_, _≤_, _<_}
 use native.Mathlib.Nat.{div-add-mod', div-lt-iff-lt-mul, mul-le-mul-right}
 use native.Mathlib.Decide.{decLt}
 use native.Mathlib.Omega.{arith}
-use borrow.Author.Tests.{lt-ltb, le-ltb, lt-leb, le-leb}
+use borrow.Author.Tests.{eq-eqb, lt-ltb, le-ltb, lt-leb, le-leb}
 use lib.Dec.{ltb, leb, eqb}
 use lib.Pow.{pow-pos}
 use Rattle.meaning.specs.Readings.{sign, magnitude, pattern, infinity, finite}
-use Rattle.meaning.specs.Methods.{round, nearest, shaved, rounded, clips, newMagnitude}
+use Rattle.meaning.specs.Methods.{Method, round, nearest, shaved, rounded, clips, newMagnitude}
 use Rattle.meaning.proofs.Powers.{pow-split}
 use Rattle.meaning.proofs.Nearest.{nearest-add}
-use Rattle.reading.specs.Left.{wanted, wantedBy, over, tailAdded}
+use Rattle.reading.specs.Left.{unlessMissing, leftFrom, wanted, wantedBy, over, tailAdded}
 
 -- a tail of t bits fits above the cut
 pub floor-room : (w t m add : ℕ) → t ≤ w → m < 2 ^ w → add < 2 ^ t → m / 2 ^ t * 2 ^ t + add < 2 ^ w
@@ -43,6 +43,10 @@ chosen-lt u s i b h k = go (decLt u i)
     go : Dec (u < i) → cond (ltb u i) u s < b
     go (yes l) = rw (lt-ltb u i l) (omega arith)
     go (no l) = rw (le-ltb u i (omega arith)) k
+
+-- a magnitude, or 0 where it isn't finite
+pub finite-or-zero : (m i a : ℕ) → a ≡ cond (ltb m i) m 0 → m < i → a ≡ m
+finite-or-zero m i a e h = e ∙ rw (lt-ltb m i h) refl
 
 -- a cut by a unit that is a power of two
 pub cut : (t m U S : ℕ) → U ≡ 2 ^ t → S ≡ m / U * U → S ≡ shaved t m
@@ -107,3 +111,29 @@ module _ (F X : ℕ) where
     pub over-word : (o : ℕ) → o ≡ cond (ltb up (infinity F X)) 0 1 → o ≡ over F X (round (F - t)) w
     unfolding over
     over-word o oo = oo ∙ rw up-is (round-over t (magnitude F X w) h)
+
+  -- any method, by a new magnitude n and a clip o that are right where the reading is finite
+  module _ (x : Method) (mark w n o z : ℕ) (nn : magnitude F X w < infinity F X → n ≡ newMagnitude F X x 0 (magnitude F X w))
+      (oo : magnitude F X w < infinity F X → o ≡ over F X x w) (zz : z ≡ cond (ltb (magnitude F X w) (infinity F X)) (w - magnitude F X w + n) w) where
+    pub by-word : z ≡ wantedBy F X x 0 w
+    unfolding wantedBy wanted finite
+    by-word = zz ∙ go (decLt (magnitude F X w) (infinity F X))
+      where
+        go : Dec (magnitude F X w < infinity F X) → cond (ltb (magnitude F X w) (infinity F X)) (w - magnitude F X w + n) w ≡ wantedBy F X x 0 w
+        go (yes f) = ap (λ (y : ℕ). cond (ltb (magnitude F X w) (infinity F X)) (w - magnitude F X w + y) w) (nn f) ∙ wanted-sum w (newMagnitude F X x 0 (magnitude F X w))
+        go (no f) = rw (le-ltb (magnitude F X w) (infinity F X) (omega arith)) refl
+
+    -- a reading that isn't finite stays, so its clip is not asked for
+    pub by-clip : _≡_ {A = ℕ} (cond (eqb (leftFrom mark w z) w) 0 o) (cond (eqb (leftFrom mark w z) w) 0 (over F X x w))
+    unfolding leftFrom unlessMissing
+    by-clip = go (decLt (magnitude F X w) (infinity F X))
+      where
+        same : (b : Bool) → cond b w w ≡ w
+        same true = refl
+        same false = refl
+
+        go : Dec (magnitude F X w < infinity F X) → _≡_ {A = ℕ} (cond (eqb (leftFrom mark w z) w) 0 o) (cond (eqb (leftFrom mark w z) w) 0 (over F X x w))
+        go (yes f) = ap (λ (y : ℕ). cond (eqb (leftFrom mark w z) w) 0 y) (oo f)
+        go (no f) =
+            let e : z ≡ w = zz ∙ rw (le-ltb (magnitude F X w) (infinity F X) (omega arith)) refl in
+            simp (e, same, eq-eqb w w refl)

@@ -1,11 +1,11 @@
-// One reading: the pattern that is left of it and what it counts for, by methods 0 to 4, in both widths. Everything is computed first and chosen last, so that a loop
+// One reading: the pattern that is left of it and what it counts for, by methods 0 to 5, in both widths. Everything is computed first and chosen last, so that a loop
 // over these functions has no branch on the data. Internal: the calls open to users are those of the crates above.
 ghost use mathlib.Core.Path.{_≡_};
 ghost use mathlib.Core.Bool.{cond};
 ghost use Prim.Native.Nat.{_-_, _/_, _*_, _^_, _<_, _≤_};
 ghost use lib.Dec.{eqb, ltb};
 ghost use Rattle.meaning.specs.Readings.{magnitude, infinity};
-ghost use Rattle.meaning.specs.Methods.{round};
+ghost use Rattle.meaning.specs.Methods.{round, absolute};
 ghost use Rattle.reading.specs.Left.{singleFrom, doubleFrom, singleBy, doubleBy, wanted, tailAdded};
 
 // What is left of a single, and four numbers of 0 or 1: whether it is changed, whether it or its result is the mark, whether it is clipped, whether it is missing.
@@ -180,4 +180,50 @@ pub fn round_double(x: u64, t: u32, mark: u64) -> Double
     let over = below_double(up, 0, 1);
     let z = below_double(m, (x - m) + n, x);
     settle_double(x, z, over, mark)
+}
+
+// Method 5 with the unit 2^q, in least spacings, for the units that the float adder serves.
+pub fn fine_single(x: u32, q: u32, mark: u32) -> Single
+    requires { ⌜ q ≤ 252 ⌝ }
+    ensures { λ r. ⌜ r ≡ singleBy (absolute q) mark 0 x ⌝ }
+{
+    let m = x % 0x8000_0000;
+    let a = below_single(m, m, 0);
+    let n = absolute::fine_single(a, q);
+    let z = below_single(m, (x - m) + n, x);
+    settle_single(x, z, 0, mark)
+}
+
+// Method 5 with any unit 2^q.
+pub fn coarse_single(x: u32, q: u32, mark: u32) -> Single
+    ensures { λ r. ⌜ r ≡ singleBy (absolute q) mark 0 x ⌝ }
+{
+    let m = x % 0x8000_0000;
+    let a = below_single(m, m, 0);
+    let step = absolute::coarse_single(a, q);
+    let z = below_single(m, (x - m) + step.magnitude, x);
+    settle_single(x, z, step.clipped, mark)
+}
+
+// Method 5 with the unit 2^q, in least spacings, for the units that the float adder serves.
+pub fn fine_double(x: u64, q: u64, mark: u64) -> Double
+    requires { ⌜ q ≤ 2044 ⌝ }
+    ensures { λ r. ⌜ r ≡ doubleBy (absolute q) mark 0 x ⌝ }
+{
+    let m = x % 0x8000_0000_0000_0000;
+    let a = below_double(m, m, 0);
+    let n = absolute::fine_double(a, q);
+    let z = below_double(m, (x - m) + n, x);
+    settle_double(x, z, 0, mark)
+}
+
+// Method 5 with any unit 2^q.
+pub fn coarse_double(x: u64, q: u64, mark: u64) -> Double
+    ensures { λ r. ⌜ r ≡ doubleBy (absolute q) mark 0 x ⌝ }
+{
+    let m = x % 0x8000_0000_0000_0000;
+    let a = below_double(m, m, 0);
+    let step = absolute::coarse_double(a, q);
+    let z = below_double(m, (x - m) + step.magnitude, x);
+    settle_double(x, z, step.clipped, mark)
 }

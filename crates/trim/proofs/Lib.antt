@@ -1,2 +1,4 @@
 pub mod Walks
 pub mod Few
+pub mod Blocks
+pub mod Planned

@@ -30,11 +30,11 @@ summed-turn g all xs i v n m h e inv =
     ∙ sym (ap (λ (l : List ℕ). n + sumFrom g i l) (drop-cons xs i 0 h))
     ∙ inv)
 
-mapped-end : (f : ℕ → ℕ → ℕ) (all xs : List ℕ) (i : ℕ) → length xs ≤ i → Mapped f all xs i → xs ≡ mapFrom f 0 all
+pub mapped-end : (f : ℕ → ℕ → ℕ) (all xs : List ℕ) (i : ℕ) → length xs ≤ i → Mapped f all xs i → xs ≡ mapFrom f 0 all
 mapped-end f all xs i h inv =
     sym (take-all i xs h) ∙ sym (append-nil (take i xs)) ∙ sym (ap (λ (l : List ℕ). take i xs ++ mapFrom f i l) (drop-of-length-le xs h)) ∙ inv
 
-summed-end : (g : ℕ → ℕ → ℕ) (all xs : List ℕ) (i n : ℕ) → length xs ≤ i → Summed g all xs i n → n ≡ sumFrom g 0 all
+pub summed-end : (g : ℕ → ℕ → ℕ) (all xs : List ℕ) (i n : ℕ) → length xs ≤ i → Summed g all xs i n → n ≡ sumFrom g 0 all
 summed-end g all xs i n h inv = sym (add-zero n) ∙ sym (ap (λ (l : List ℕ). n + sumFrom g i l) (drop-of-length-le xs h)) ∙ inv
 
 -- what is left at a place, and what it counts for: p, and four numbers of 0 or 1

@@ -1,11 +1,11 @@
 // Trimming an array in place: each method's loop, in both widths. The loops over singles run in blocks, so that 32-bit counters serve and LLVM can work on four
 // readings at once.
 ghost use mathlib.Core.Path.{_≡_};
-ghost use Prim.Native.Nat.{_-_, _^_, _<_, _≤_};
+ghost use Prim.Native.Nat.{min, _-_, _^_, _<_, _≤_};
 ghost use lib.ListN.{length};
 ghost use Rattle.meaning.specs.Methods.{round};
 ghost use Rattle.reading.specs.Left.{singleBy, doubleBy};
-ghost use Rattle.trim.specs.Walk.{singlesLeft, singlesSummed, doublesLeft, doublesSummed, addAt, tailSingle, tailDouble};
+ghost use Rattle.trim.specs.Walk.{Sound, planned, singlesLeft, singlesSummed, singlesTotal, doublesLeft, doublesSummed, addAt, tailSingle, tailDouble};
 
 // The sums over a block of singles: places changed, places where the reading or its result is the mark, places clipped, places missing.
 pub struct Block {
@@ -141,6 +141,67 @@ fn round_doubles(readings: &mut [u64], t: u32, mark: u64) -> Totals
         clipped += one.clipped;
         missing += one.missing;
         i += 1;
+    }
+    Totals {
+        changed,
+        marked,
+        clipped,
+        missing,
+    }
+}
+
+// The most readings of a block: n, or 65,536 where n is more.
+fn at_most_block(n: usize) -> usize
+    ensures { λ r. ⌜ r ≡ min n 65536 ⌝ }
+{
+    if n < 65536 { n } else { 65536 }
+}
+
+// How the singles of an array are trimmed. kind 0: methods 0 to 3, the tail of t bits becomes `even` or `odd`; kind 1: method 4 with a tail of t bits.
+pub struct Plan {
+    pub kind: u32,
+    pub t: u32,
+    pub even: u32,
+    pub odd: u32,
+}
+
+// One block by its plan.
+fn block_singles(readings: &mut [u32], plan: Plan, mark: u32) -> Block
+    requires { ⌜ (Sound plan) × (length (now readings) ≤ 65536) ⌝ }
+    ensures sums { λ r. ⌜ r ≡ singlesSummed (planned plan mark) (now (readings .entry)) ⌝ }
+    ensures content { λ _. ⌜ now (readings .exit) ≡ singlesLeft (planned plan mark) (now (readings .entry)) ⌝ }
+{
+    if plan.kind == 0 {
+        return tail_singles(readings, plan.t, plan.even, plan.odd, mark);
+    }
+    round_singles(readings, plan.t, mark)
+}
+
+fn wide(x: u32) -> u64
+    ensures { λ r. ⌜ r ≡ x ⌝ }
+{
+    x as u64
+}
+
+// A whole array by its plan, block by block.
+fn plan_singles(readings: &mut [u32], plan: Plan, mark: u32) -> Totals
+    requires { ⌜ Sound plan ⌝ }
+    ensures sums { λ r. ⌜ r ≡ singlesTotal (planned plan mark) (now (readings .entry)) ⌝ }
+    ensures content { λ _. ⌜ now (readings .exit) ≡ singlesLeft (planned plan mark) (now (readings .entry)) ⌝ }
+{
+    let mut changed: u64 = 0;
+    let mut marked: u64 = 0;
+    let mut clipped: u64 = 0;
+    let mut missing: u64 = 0;
+    let mut a: usize = 0;
+    while a < readings.len() {
+        let e = a + at_most_block(readings.len() - a);
+        let block = block_singles(&mut readings[a..e], plan, mark);
+        changed += wide(block.changed);
+        marked += wide(block.marked);
+        clipped += wide(block.clipped);
+        missing += wide(block.missing);
+        a = e;
     }
     Totals {
         changed,

@@ -1,0 +1,2 @@
+-- What method 5 makes of one magnitude.
+pub mod Stepped
