@@ -1,15 +1,16 @@
 -- Methods 0 to 4 on machine words: what the functions compute is what the definitions say, for every width.
-use mathlib.Core.Path.{_≡_, refl, sym, ap, _∙_, subst}
+use mathlib.Core.Path.{_≡_, refl, sym, ap, ap₂, _∙_, subst}
+use mathlib.Core.Logic.{_≢_}
 use mathlib.Core.Bool.{Bool, true, false, cond}
 use Prim.Native.Nat.{ℕ, zero, suc, _+_, _-_, _*_, _/_, _%_, _^_, _≤_, _<_}
-use native.Mathlib.Nat.{div-add-mod', div-lt-iff-lt-mul, mul-le-mul-right}
-use native.Mathlib.Decide.{decLt}
+use native.Mathlib.Nat.{le-refl, div-add-mod', div-lt-iff-lt-mul, mul-le-mul-right}
+use native.Mathlib.Decide.{decLt, ℕ-discrete}
 use native.Mathlib.Omega.{arith}
-use borrow.Author.Tests.{eq-eqb, lt-ltb, le-ltb, lt-leb, le-leb}
+use borrow.Author.Tests.{eq-eqb, ne-eqb, lt-ltb, le-ltb, lt-leb, le-leb}
 use lib.Dec.{ltb, leb, eqb}
 use lib.Pow.{pow-pos}
 use Rattle.meaning.specs.Readings.{sign, magnitude, pattern, infinity, finite}
-use Rattle.meaning.specs.Methods.{Method, round, nearest, shaved, rounded, clips, newMagnitude}
+use Rattle.meaning.specs.Methods.{Method, digits, halfshaved, round, nearest, shaved, rounded, clips, newMagnitude}
 use Rattle.meaning.proofs.Powers.{pow-split}
 use Rattle.meaning.proofs.Nearest.{nearest-add}
 use Rattle.reading.specs.Left.{unlessMissing, leftFrom, wanted, wantedBy, over, tailAdded}
@@ -48,6 +49,23 @@ chosen-lt u s i b h k = go (decLt u i)
 pub finite-or-zero : (m i a : ℕ) → a ≡ cond (ltb m i) m 0 → m < i → a ≡ m
 finite-or-zero m i a e h = e ∙ rw (lt-ltb m i h) refl
 
+-- a finite magnitude that is not zero: m itself where it is one, and 1 elsewhere
+module _ (m i b a : ℕ) (two : 1 < i) (bb : b ≡ cond (ltb m i) m 1) (aa : a ≡ cond (eqb b 0) 1 b) where
+  pub any-magnitude : (0 < a) × (a < i)
+  any-magnitude = go (ℕ-discrete b 0)
+    where
+      below : b < i
+      below = subst (λ (x : ℕ). x < i) (sym bb) (chosen-lt m 1 i i (le-refl i) two)
+
+      go : Dec (b ≡ 0) → (0 < a) × (a < i)
+      go (yes z) = let e : a ≡ 1 = aa ∙ rw (eq-eqb b 0 z) refl in (omega arith, omega arith)
+      go (no z) = let e : a ≡ b = aa ∙ rw (ne-eqb b 0 z) refl in (omega arith, omega (arith, below))
+
+  pub some-magnitude : m < i → m ≢ 0 → a ≡ m
+  some-magnitude h z =
+      let e : b ≡ m = bb ∙ rw (lt-ltb m i h) refl in
+      aa ∙ rw (e, ne-eqb m 0 z) refl
+
 -- a cut by a unit that is a power of two
 pub cut : (t m U S : ℕ) → U ≡ 2 ^ t → S ≡ m / U * U → S ≡ shaved t m
 unfolding shaved
@@ -57,6 +75,19 @@ cut t m U S u s = s ∙ ap (λ (x : ℕ). m / x * x) u
 pub cut-room : (w t m add U S : ℕ) → t ≤ w → m < 2 ^ w → add < 2 ^ t → U ≡ 2 ^ t → S ≡ m / U * U → S + add < 2 ^ w
 unfolding shaved
 cut-room w t m add U S h l a u s = subst (λ (x : ℕ). x + add < 2 ^ w) (sym (cut t m U S u s)) (floor-room w t m add h l a)
+
+-- method 3 by the cut S and half a unit H
+pub halfshaved-none : (t m : ℕ) → t ≡ 0 → m ≡ halfshaved t m
+unfolding halfshaved
+halfshaved-none zero m e = refl
+halfshaved-none (suc t) m e = absurd (omega arith)
+
+pub halfshaved-word : (t m U H S : ℕ) → t ≢ 0 → 0 < m → U ≡ 2 ^ t → H ≡ 2 ^ (t - 1) → S ≡ m / U * U → S + H ≡ halfshaved t m
+unfolding halfshaved
+halfshaved-word zero m U H S n p u h s = absurd (n refl)
+halfshaved-word (suc t) m U H S n p u h s =
+    let z : suc t - 1 ≡ t = omega arith in
+    rw (ne-eqb m 0 (omega arith)) (ap₂ (λ (x y : ℕ). x + y) (cut (suc t) m U S u s) (h ∙ ap (λ (x : ℕ). 2 ^ x) z))
 
 module _ (F X : ℕ) where
   -- the sign and a new magnitude, where the reading is finite
@@ -112,6 +143,10 @@ module _ (F X : ℕ) where
     unfolding over
     over-word o oo = oo ∙ rw up-is (round-over t (magnitude F X w) h)
 
+  digits-zero : (n m : ℕ) → m ≡ 0 → newMagnitude F X (digits n) 0 m ≡ 0
+  unfolding newMagnitude
+  digits-zero n m z = rw (eq-eqb m 0 z) z
+
   -- any method, by a new magnitude n and a clip o that are right where the reading is finite
   module _ (x : Method) (mark w n o z : ℕ) (nn : magnitude F X w < infinity F X → n ≡ newMagnitude F X x 0 (magnitude F X w))
       (oo : magnitude F X w < infinity F X → o ≡ over F X x w) (zz : z ≡ cond (ltb (magnitude F X w) (infinity F X)) (w - magnitude F X w + n) w) where
@@ -137,3 +172,16 @@ module _ (F X : ℕ) where
         go (no f) =
             let e : z ≡ w = zz ∙ rw (le-ltb (magnitude F X w) (infinity F X) (omega arith)) refl in
             simp (e, same, eq-eqb w w refl)
+
+  -- method 6: k is 0 for a zero and the halfshaved magnitude h elsewhere
+  pub digits-word : (n m a t h k : ℕ) → (m < infinity F X → m ≢ 0 → a ≡ m) → newMagnitude F X (digits n) 0 a ≡ halfshaved t a → h ≡ halfshaved t a → k ≡ cond (eqb m 0) 0 h
+      → m < infinity F X → k ≡ newMagnitude F X (digits n) 0 m
+  digits-word n m a t h k aa tt' hh kk f = go (ℕ-discrete m 0)
+    where
+      go : Dec (m ≡ 0) → k ≡ newMagnitude F X (digits n) 0 m
+      go (yes z) = kk ∙ rw (eq-eqb m 0 z) (sym (digits-zero n m z))
+      go (no z) = kk ∙ rw (ne-eqb m 0 z) (hh ∙ sym tt' ∙ ap (λ (x : ℕ). newMagnitude F X (digits n) 0 x) (aa f z))
+
+  pub digits-over : (n w : ℕ) → 0 ≡ over F X (digits n) w
+  unfolding over clips
+  digits-over n w = refl

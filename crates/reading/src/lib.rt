@@ -1,11 +1,12 @@
-// One reading: the pattern that is left of it and what it counts for, by methods 0 to 5, in both widths. Everything is computed first and chosen last, so that a loop
+// One reading: the pattern that is left of it and what it counts for, by each method, in both widths. Everything is computed first and chosen last, so that a loop
 // over these functions has no branch on the data. Internal: the calls open to users are those of the crates above.
 ghost use mathlib.Core.Path.{_≡_};
 ghost use mathlib.Core.Bool.{cond};
 ghost use Prim.Native.Nat.{_-_, _/_, _*_, _^_, _<_, _≤_};
 ghost use lib.Dec.{eqb, ltb};
 ghost use Rattle.meaning.specs.Readings.{magnitude, infinity};
-ghost use Rattle.meaning.specs.Methods.{round, absolute};
+ghost use Rattle.meaning.specs.Methods.{halfshaved, round, absolute, digits};
+ghost use Rattle.powers.specs.Table.{powers};
 ghost use Rattle.reading.specs.Left.{singleFrom, doubleFrom, singleBy, doubleBy, wanted, tailAdded};
 
 // What is left of a single, and four numbers of 0 or 1: whether it is changed, whether it or its result is the mark, whether it is clipped, whether it is missing.
@@ -226,4 +227,60 @@ pub fn coarse_double(x: u64, q: u64, mark: u64) -> Double
     let step = absolute::coarse_double(a, q);
     let z = below_double(m, (x - m) + step.magnitude, x);
     settle_double(x, z, step.clipped, mark)
+}
+
+// Method 3 on a magnitude that is not zero: the tail of t bits becomes a one and zeros.
+fn halfshave_single(m: u32, t: u32) -> u32
+    requires { ⌜ ((0 < m) × (m < infinity 23 8)) × (t ≤ 23) ⌝ }
+    ensures { λ r. ⌜ r ≡ halfshaved t m ⌝ }
+{
+    if t == 0 {
+        return m;
+    }
+    let unit = power_single(t);
+    let half = power_single(t - 1);
+    floor_single(m, unit) + half
+}
+
+// Method 6 with n digits: method 3 with the tail that the reading's decade gives.
+pub fn digit_single(table: &[u64; 633], x: u32, n: u32, mark: u32) -> Single
+    requires { ⌜ ((1 ≤ n) × (n ≤ 7)) × (now table ≡ powers) ⌝ }
+    ensures { λ r. ⌜ r ≡ singleBy (digits n) mark 0 x ⌝ }
+{
+    let m = x % 0x8000_0000;
+    let b = below_single(m, m, 1);
+    let a = choose_single(b, 0, 1, b);
+    let t = powers::single_tail(table, a, n);
+    let h = halfshave_single(a, t);
+    let k = choose_single(m, 0, 0, h);
+    let z = below_single(m, (x - m) + k, x);
+    settle_single(x, z, 0, mark)
+}
+
+// Method 3 on a magnitude that is not zero: the tail of t bits becomes a one and zeros.
+fn halfshave_double(m: u64, t: u32) -> u64
+    requires { ⌜ ((0 < m) × (m < infinity 52 11)) × (t ≤ 52) ⌝ }
+    ensures { λ r. ⌜ r ≡ halfshaved t m ⌝ }
+{
+    if t == 0 {
+        return m;
+    }
+    let unit = power_double(t);
+    let half = power_double(t - 1);
+    floor_double(m, unit) + half
+}
+
+// Method 6 with n digits: method 3 with the tail that the reading's decade gives.
+pub fn digit_double(table: &[u64; 633], x: u64, n: u32, mark: u64) -> Double
+    requires { ⌜ ((1 ≤ n) × (n ≤ 15)) × (now table ≡ powers) ⌝ }
+    ensures { λ r. ⌜ r ≡ doubleBy (digits n) mark 0 x ⌝ }
+{
+    let m = x % 0x8000_0000_0000_0000;
+    let b = below_double(m, m, 1);
+    let a = choose_double(b, 0, 1, b);
+    let t = powers::double_tail(table, a, n);
+    let h = halfshave_double(a, t);
+    let k = choose_double(m, 0, 0, h);
+    let z = below_double(m, (x - m) + k, x);
+    settle_double(x, z, 0, mark)
 }

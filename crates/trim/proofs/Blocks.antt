@@ -1,6 +1,6 @@
 -- A loop over the blocks of a slice, each walked by itself: what a block leaves is its part of the whole walk, where each block begins at an even place and the walk
 -- only looks at the parity of a place.
-use mathlib.Core.Path.{_≡_, refl, sym, ap, ap₂, _∙_}
+use mathlib.Core.Path.{_≡_, refl, sym, ap, ap₂, _∙_, subst}
 use mathlib.Core.List.{List, [], _∷_, _++_, append-assoc, append-nil}
 use Prim.Native.Nat.{ℕ, zero, suc, min, _+_, _-_, _*_, _/_, _%_, _<_, _≤_, zero-le}
 use native.Mathlib.Nat.{add-zero, zero-add, add-assoc, add-suc, suc-add}
@@ -162,10 +162,10 @@ module _ (p a b c d : ℕ → ℕ → ℕ) (pair : Paired p a b c d) (all : List
     few-block : (g : ℕ → ℕ → ℕ) → ((i w : ℕ) → g i w ≤ 1) → (m : ℕ) → m ≡ sumFrom g 0 (take k (drop at xs)) → m ≤ k
     few-block g h m e = omega (arith, few-sum g h 0 (take k (drop at xs)), block-length, e)
 
-    pub whole-turn : (ys : List ℕ) (ma mb mc md : ℕ) → ys ≡ mapFrom p 0 (take k (drop at xs)) → ma ≡ sumFrom a 0 (take k (drop at xs)) → mb ≡ sumFrom b 0 (take k (drop at xs))
+    turn-by : (ys : List ℕ) (ma mb mc md : ℕ) → ys ≡ mapFrom p 0 (take k (drop at xs)) → ma ≡ sumFrom a 0 (take k (drop at xs)) → mb ≡ sumFrom b 0 (take k (drop at xs))
         → mc ≡ sumFrom c 0 (take k (drop at xs)) → md ≡ sumFrom d 0 (take k (drop at xs))
         → Whole p a b c d all (take at xs ++ (ys ++ drop k (drop at xs))) (na + ma) (nb + mb) (nc + mc) (nd + md) (at + k)
-    whole-turn ys ma mb mc md ep ea eb ec ed =
+    turn-by ys ma mb mc md ep ea eb ec ed =
         record {
           same = back-length all xs at k ev room ys long ∙ inv .same;
           within = rw (back-length all xs at k ev room ys long) room;
@@ -186,6 +186,12 @@ module _ (p a b c d : ℕ → ℕ → ℕ) (pair : Paired p a b c d) (all : List
 
         long : length ys ≡ k
         long = ap length ep ∙ map-length p 0 (take k (drop at xs)) ∙ block-length
+
+    pub whole-turn : (next : ℕ) → at + k ≡ next → (ys : List ℕ) (ma mb mc md : ℕ) → ys ≡ mapFrom p 0 (take k (drop at xs)) → ma ≡ sumFrom a 0 (take k (drop at xs)) → mb ≡ sumFrom b 0 (take k (drop at xs))
+        → mc ≡ sumFrom c 0 (take k (drop at xs)) → md ≡ sumFrom d 0 (take k (drop at xs))
+        → Whole p a b c d all (take at xs ++ (ys ++ drop k (drop at xs))) (na + ma) (nb + mb) (nc + mc) (nd + md) next
+    whole-turn next e ys ma mb mc md ep ea eb ec ed =
+        subst (λ (x : ℕ). Whole p a b c d all (take at xs ++ (ys ++ drop k (drop at xs))) (na + ma) (nb + mb) (nc + mc) (nd + md) x) e (turn-by ys ma mb mc md ep ea eb ec ed)
 
     pub whole-few : (ma mb mc md : ℕ) → ma ≡ sumFrom a 0 (take k (drop at xs)) → mb ≡ sumFrom b 0 (take k (drop at xs))
         → mc ≡ sumFrom c 0 (take k (drop at xs)) → md ≡ sumFrom d 0 (take k (drop at xs)) → (ma ≤ k) × (mb ≤ k) × (mc ≤ k) × (md ≤ k)

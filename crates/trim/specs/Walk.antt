@@ -1,12 +1,11 @@
 -- A walk over an array from a place on: what is left of each reading, and four sums of what each counts for.
 use mathlib.Core.Path.{_≡_}
-use mathlib.Core.Logic.{_≢_}
 use mathlib.Core.Bool.{Bool, true, false, cond}
 use mathlib.Core.List.{List, [], _∷_}
 use Prim.Native.Nat.{ℕ, suc, _+_, _-_, _%_, _^_, _≤_, _<_}
 use lib.Dec.{eqb}
 use Rattle.meaning.specs.Readings.{magnitude}
-use Rattle.meaning.specs.Methods.{round}
+use Rattle.meaning.specs.Methods.{round, absolute}
 use Rattle.reading.specs.declared.Single.{Single}
 use Rattle.reading.specs.declared.Double.{Double}
 use Rattle.reading.specs.Left.{singleFrom, doubleFrom, singleBy, doubleBy, wanted, tailAdded}
@@ -78,7 +77,11 @@ pub record Sound (p : Plan) : Type 0 where
   pub tail : p .t ≤ 23
   pub even-fits : p .even < 2 ^ p .t
   pub odd-fits : p .odd < 2 ^ p .t
-  pub some : p .kind ≢ 0 → 1 ≤ p .t
+  pub some : p .kind ≡ 1 → 1 ≤ p .t
+  pub fine : p .kind ≡ 2 → p .q ≤ 252
 
 unfoldable pub planned : Plan → ℕ → ℕ → ℕ → Single
-planned p mark place w = singleIf (eqb (p .kind) 0) (tailSingle (p .t) (p .even) (p .odd) mark place w) (singleBy (round (23 - p .t)) mark 0 w)
+planned p mark place w =
+    singleIf (eqb (p .kind) 0) (tailSingle (p .t) (p .even) (p .odd) mark place w)
+    (singleIf (eqb (p .kind) 1) (singleBy (round (23 - p .t)) mark 0 w)
+    (singleBy (absolute (p .q)) mark 0 w))

@@ -3,7 +3,7 @@
 ghost use mathlib.Core.Path.{_≡_};
 ghost use Prim.Native.Nat.{min, _-_, _^_, _<_, _≤_};
 ghost use lib.ListN.{length};
-ghost use Rattle.meaning.specs.Methods.{round};
+ghost use Rattle.meaning.specs.Methods.{round, absolute};
 ghost use Rattle.reading.specs.Left.{singleBy, doubleBy};
 ghost use Rattle.trim.specs.Walk.{Sound, planned, singlesLeft, singlesSummed, singlesTotal, doublesLeft, doublesSummed, addAt, tailSingle, tailDouble};
 
@@ -150,6 +150,117 @@ fn round_doubles(readings: &mut [u64], t: u32, mark: u64) -> Totals
     }
 }
 
+// Method 5 over a block of singles, for the units that the float adder serves.
+fn fine_singles(readings: &mut [u32], q: u32, mark: u32) -> Block
+    requires { ⌜ (q ≤ 252) × (length (now readings) ≤ 65536) ⌝ }
+    ensures sums { λ r. ⌜ r ≡ singlesSummed (λ i w. singleBy (absolute q) mark 0 w) (now (readings .entry)) ⌝ }
+    ensures content { λ _. ⌜ now (readings .exit) ≡ singlesLeft (λ i w. singleBy (absolute q) mark 0 w) (now (readings .entry)) ⌝ }
+{
+    let mut changed: u32 = 0;
+    let mut marked: u32 = 0;
+    let mut clipped: u32 = 0;
+    let mut missing: u32 = 0;
+    let mut i: usize = 0;
+    while i < readings.len() {
+        let one = reading::fine_single(readings[i], q, mark);
+        readings[i] = one.pattern;
+        changed += one.changed;
+        marked += one.marked;
+        clipped += one.clipped;
+        missing += one.missing;
+        i += 1;
+    }
+    Block {
+        changed,
+        marked,
+        clipped,
+        missing,
+    }
+}
+
+// Method 5 over a block of singles, for any unit.
+fn coarse_singles(readings: &mut [u32], q: u32, mark: u32) -> Block
+    requires { ⌜ length (now readings) ≤ 65536 ⌝ }
+    ensures sums { λ r. ⌜ r ≡ singlesSummed (λ i w. singleBy (absolute q) mark 0 w) (now (readings .entry)) ⌝ }
+    ensures content { λ _. ⌜ now (readings .exit) ≡ singlesLeft (λ i w. singleBy (absolute q) mark 0 w) (now (readings .entry)) ⌝ }
+{
+    let mut changed: u32 = 0;
+    let mut marked: u32 = 0;
+    let mut clipped: u32 = 0;
+    let mut missing: u32 = 0;
+    let mut i: usize = 0;
+    while i < readings.len() {
+        let one = reading::coarse_single(readings[i], q, mark);
+        readings[i] = one.pattern;
+        changed += one.changed;
+        marked += one.marked;
+        clipped += one.clipped;
+        missing += one.missing;
+        i += 1;
+    }
+    Block {
+        changed,
+        marked,
+        clipped,
+        missing,
+    }
+}
+
+// Method 5 over doubles, for the units that the float adder serves.
+fn fine_doubles(readings: &mut [u64], q: u64, mark: u64) -> Totals
+    requires { ⌜ q ≤ 2044 ⌝ }
+    ensures sums { λ r. ⌜ r ≡ doublesSummed (λ i w. doubleBy (absolute q) mark 0 w) (now (readings .entry)) ⌝ }
+    ensures content { λ _. ⌜ now (readings .exit) ≡ doublesLeft (λ i w. doubleBy (absolute q) mark 0 w) (now (readings .entry)) ⌝ }
+{
+    let mut changed: u64 = 0;
+    let mut marked: u64 = 0;
+    let mut clipped: u64 = 0;
+    let mut missing: u64 = 0;
+    let mut i: usize = 0;
+    while i < readings.len() {
+        let one = reading::fine_double(readings[i], q, mark);
+        readings[i] = one.pattern;
+        changed += one.changed;
+        marked += one.marked;
+        clipped += one.clipped;
+        missing += one.missing;
+        i += 1;
+    }
+    Totals {
+        changed,
+        marked,
+        clipped,
+        missing,
+    }
+}
+
+// Method 5 over doubles, for any unit.
+fn coarse_doubles(readings: &mut [u64], q: u64, mark: u64) -> Totals
+    ensures sums { λ r. ⌜ r ≡ doublesSummed (λ i w. doubleBy (absolute q) mark 0 w) (now (readings .entry)) ⌝ }
+    ensures content { λ _. ⌜ now (readings .exit) ≡ doublesLeft (λ i w. doubleBy (absolute q) mark 0 w) (now (readings .entry)) ⌝ }
+{
+    let mut changed: u64 = 0;
+    let mut marked: u64 = 0;
+    let mut clipped: u64 = 0;
+    let mut missing: u64 = 0;
+    let mut i: usize = 0;
+    while i < readings.len() {
+        let one = reading::coarse_double(readings[i], q, mark);
+        readings[i] = one.pattern;
+        changed += one.changed;
+        marked += one.marked;
+        clipped += one.clipped;
+        missing += one.missing;
+        i += 1;
+    }
+    Totals {
+        changed,
+        marked,
+        clipped,
+        missing,
+    }
+}
+
 // The most readings of a block: n, or 65,536 where n is more.
 fn at_most_block(n: usize) -> usize
     ensures { λ r. ⌜ r ≡ min n 65536 ⌝ }
@@ -157,12 +268,14 @@ fn at_most_block(n: usize) -> usize
     if n < 65536 { n } else { 65536 }
 }
 
-// How the singles of an array are trimmed. kind 0: methods 0 to 3, the tail of t bits becomes `even` or `odd`; kind 1: method 4 with a tail of t bits.
+// How the singles of an array are trimmed. kind 0: methods 0 to 3, the tail of t bits becomes `even` or `odd`; kind 1: method 4 with a tail of t bits, not none;
+// kind 2: method 5 with the unit 2^q, by the float adder; any other kind: method 5 with the unit 2^q.
 pub struct Plan {
     pub kind: u32,
     pub t: u32,
     pub even: u32,
     pub odd: u32,
+    pub q: u32,
 }
 
 // One block by its plan.
@@ -174,7 +287,13 @@ fn block_singles(readings: &mut [u32], plan: Plan, mark: u32) -> Block
     if plan.kind == 0 {
         return tail_singles(readings, plan.t, plan.even, plan.odd, mark);
     }
-    round_singles(readings, plan.t, mark)
+    if plan.kind == 1 {
+        return round_singles(readings, plan.t, mark);
+    }
+    if plan.kind == 2 {
+        return fine_singles(readings, plan.q, mark);
+    }
+    coarse_singles(readings, plan.q, mark)
 }
 
 fn wide(x: u32) -> u64

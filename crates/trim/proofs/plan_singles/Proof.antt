@@ -1,27 +1,21 @@
--- Block after block, by the laws of `Blocks`.
+-- Block after block, by the laws of `Planned`.
 use borrow.Author.Needs.{needs}
-use mathlib.Core.Path.{_≡_, ap, _∙_, subst}
-use Prim.Native.Nat.{ℕ, _+_, _-_, _≤_}
+use Prim.Native.Nat.{_+_, _-_, _≤_}
 use native.Mathlib.Omega.{arith}
-use lib.ListN.{length, take, drop, length-take}
-use Rattle.trim.specs.declared.Block.{Block}
-use Rattle.trim.specs.Walk.{planned, singlesLeft, singlesSummed, singlesTotal}
-use Rattle.trim.proofs.Blocks.{Whole, whole-start, whole-turn, whole-few, whole-finish}
-use Rattle.trim.proofs.Planned.{paired}
+use lib.ListN.{length, drop, length-take}
+use Rattle.trim.proofs.Planned.{PlanWhole, plan-start, plan-turn, plan-few, plan-finish}
 use Rattle.trim.proofs.plan_singles.Statement.{statement}
 use Rattle.trim.proofs.plan_singles.Tie as tie
 
 abbrev Inv-loop : tie.InvT-loop
 Inv-loop readings₀ plan mark changed₀ marked₀ clipped₀ missing₀ a₀ readings changed marked clipped missing a =
-    Whole (λ i w. planned plan mark i w .pattern) (λ i w. planned plan mark i w .changed) (λ i w. planned plan mark i w .marked) (λ i w. planned plan mark i w .clipped) (λ i w. planned plan mark i w .missing) readings₀ readings changed marked clipped missing a
+    PlanWhole plan mark readings₀ readings changed marked clipped missing a
 
 abbrev μ-loop : tie.MeasureT-loop
 μ-loop readings₀ plan mark changed₀ marked₀ clipped₀ missing₀ a₀ readings changed marked clipped missing a = length readings₀ - a
 
 loop-holds : tie.Need-loop-holds Inv-loop μ-loop
-loop-holds c =
-    let s = c .before .args in
-    whole-start (λ i w. planned (s .plan) (s .mark) i w .pattern) (λ i w. planned (s .plan) (s .mark) i w .changed) (λ i w. planned (s .plan) (s .mark) i w .marked) (λ i w. planned (s .plan) (s .mark) i w .clipped) (λ i w. planned (s .plan) (s .mark) i w .missing) (paired (s .plan) (s .mark)) (s .readings .now)
+loop-holds c = plan-start (c .before .args .plan) (c .before .args .mark) (c .before .args .readings .now)
 
 sub-at-most-block : tie.Need-sub-at-most-block Inv-loop μ-loop
 sub-at-most-block c = omega arith
@@ -55,16 +49,12 @@ few : (c : tie.After-block-singles Inv-loop μ-loop)
     → let k = c .before .before .at-most-block .result in
     let r = c .block-singles .result in
     (r .changed ≤ k) × (r .marked ≤ k) × (r .clipped ≤ k) × (r .missing ≤ k)
-unfolding singlesSummed
 few c =
     let s = c .before .before .before .before .before .before .args in
     let at = c .before .before .before .before .loop in
     let k = c .before .before .at-most-block .result in
-    let e = c .block-singles .ensures .0 in
-    let w = whole-few (λ i w. planned (s .plan) (s .mark) i w .pattern) (λ i w. planned (s .plan) (s .mark) i w .changed) (λ i w. planned (s .plan) (s .mark) i w .marked) (λ i w. planned (s .plan) (s .mark) i w .clipped) (λ i w. planned (s .plan) (s .mark) i w .missing) (paired (s .plan) (s .mark)) (s .readings .now)
-    (at .readings) (at .changed) (at .marked) (at .clipped) (at .missing) (at .a) (at .a + k - at .a) (at .inv) (omega arith) (omega (arith, c .before .before .at-most-block .ensures))
-    (c .block-singles .result .changed) (c .block-singles .result .marked) (c .block-singles .result .clipped) (c .block-singles .result .missing)
-    (ap (λ (b : Block). b .changed) e) (ap (λ (b : Block). b .marked) e) (ap (λ (b : Block). b .clipped) e) (ap (λ (b : Block). b .missing) e) in
+    let w = plan-few (s .plan) (s .mark) (s .readings .now) (at .readings) (at .changed) (at .marked) (at .clipped) (at .missing) (at .a) (at .a + k - at .a) (at .inv)
+    (omega arith) (omega (arith, c .before .before .at-most-block .ensures)) (c .block-singles .result) (c .block-singles .ensures .0) in
     omega (arith, w)
 
 wide-requires : tie.Need-wide-requires Inv-loop μ-loop
@@ -95,31 +85,24 @@ loop-less : tie.Need-loop-less Inv-loop μ-loop
 loop-less c = omega (arith, c .before .before .before .before .before .before .before .before .at-most-block .ensures)
 
 loop-again : tie.Need-loop-again Inv-loop μ-loop
-unfolding singlesSummed singlesLeft
 loop-again c =
     let g = c .before .before .before .before .before .before in
     let at = g .before .before .before .before .loop in
     let s = g .before .before .before .before .before .before .args in
     let k = g .before .before .at-most-block .result in
-    let e = g .block-singles .ensures .0 in
-    let n : at .a + (at .a + k - at .a) ≡ at .a + k = omega arith in
-    subst (λ (x : ℕ). Whole (λ i w. planned (s .plan) (s .mark) i w .pattern) (λ i w. planned (s .plan) (s .mark) i w .changed) (λ i w. planned (s .plan) (s .mark) i w .marked) (λ i w. planned (s .plan) (s .mark) i w .clipped) (λ i w. planned (s .plan) (s .mark) i w .missing) (s .readings .now) _ _ _ _ _ x) n
-    (whole-turn (λ i w. planned (s .plan) (s .mark) i w .pattern) (λ i w. planned (s .plan) (s .mark) i w .changed) (λ i w. planned (s .plan) (s .mark) i w .marked) (λ i w. planned (s .plan) (s .mark) i w .clipped) (λ i w. planned (s .plan) (s .mark) i w .missing) (paired (s .plan) (s .mark)) (s .readings .now)
-    (at .readings) (at .changed) (at .marked) (at .clipped) (at .missing) (at .a) (at .a + k - at .a) (at .inv) (omega arith) (omega (arith, g .before .before .at-most-block .ensures))
-    (g .block-singles .last .0) (c .before .before .before .wide .result) (c .before .before .wide2 .result) (c .before .wide3 .result) (c .wide4 .result) (g .block-singles .ensures .1)
-    (c .before .before .before .wide .ensures ∙ ap (λ (b : Block). b .changed) e) (c .before .before .wide2 .ensures ∙ ap (λ (b : Block). b .marked) e)
-    (c .before .wide3 .ensures ∙ ap (λ (b : Block). b .clipped) e) (c .wide4 .ensures ∙ ap (λ (b : Block). b .missing) e))
+    plan-turn (s .plan) (s .mark) (s .readings .now) (at .readings) (at .changed) (at .marked) (at .clipped) (at .missing) (at .a) (at .a + k - at .a) (at .inv)
+    (omega arith) (omega (arith, g .before .before .at-most-block .ensures)) (g .block-singles .result) (g .block-singles .ensures .0) (at .a + k) (omega arith) (g .block-singles .last .0)
+    (c .before .before .before .wide .result) (c .before .before .wide2 .result) (c .before .wide3 .result) (c .wide4 .result) (g .block-singles .ensures .1)
+    (c .before .before .before .wide .ensures) (c .before .before .wide2 .ensures) (c .before .wide3 .ensures) (c .wide4 .ensures)
 
 same-length : tie.Need-same-length Inv-loop μ-loop
 same-length c = search needs
 
 returns : tie.Need-returns Inv-loop μ-loop
-unfolding singlesTotal singlesLeft
 returns c =
     let at = c .before .loop in
     let s = c .before .before .before .args in
-    let e = whole-finish (λ i w. planned (s .plan) (s .mark) i w .pattern) (λ i w. planned (s .plan) (s .mark) i w .changed) (λ i w. planned (s .plan) (s .mark) i w .marked) (λ i w. planned (s .plan) (s .mark) i w .clipped) (λ i w. planned (s .plan) (s .mark) i w .missing) (paired (s .plan) (s .mark)) (s .readings .now) (at .readings) (at .changed) (at .marked) (at .clipped) (at .missing) (at .a) (at .inv) (omega arith) in
-    (simp (e .is-a, e .is-b, e .is-c, e .is-d), e .left)
+    plan-finish (s .plan) (s .mark) (s .readings .now) (at .readings) (at .changed) (at .marked) (at .clipped) (at .missing) (at .a) (at .inv) (omega arith)
 
 pub plan-singles-spec : {M : Type 1} → statement M
 plan-singles-spec =

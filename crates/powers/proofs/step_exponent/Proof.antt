@@ -1,0 +1,20 @@
+-- The table's test at the place i.
+use native.Mathlib.Omega.{arith}
+use Rattle.powers.proofs.Powers.{step-at}
+use Rattle.powers.proofs.step_exponent.Statement.{statement}
+use Rattle.powers.proofs.step_exponent.Tie as tie
+
+mul-result : tie.Need-mul-result
+mul-result c = omega arith
+
+add-result : tie.Need-add-result
+add-result c = omega arith
+
+cast-result : tie.Need-cast-result
+cast-result c = omega arith
+
+returns : tie.Need-returns
+returns c = step-at (c .args .i) (c .pre)
+
+pub step-exponent-spec : {M : Type 1} → statement M
+step-exponent-spec = tie.close (tie.spec mul-result add-result cast-result returns)
