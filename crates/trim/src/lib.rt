@@ -3,7 +3,7 @@
 ghost use mathlib.Core.Path.{_≡_};
 ghost use Prim.Native.Nat.{min, _-_, _^_, _<_, _≤_};
 ghost use lib.ListN.{length};
-ghost use Rattle.meaning.specs.Methods.{round, absolute};
+ghost use Rattle.meaning.specs.Methods.{round, absolute, digits};
 ghost use Rattle.reading.specs.Left.{singleBy, doubleBy};
 ghost use Rattle.trim.specs.Walk.{Sound, planned, singlesLeft, singlesSummed, singlesTotal, doublesLeft, doublesSummed, addAt, tailSingle, tailDouble};
 
@@ -321,6 +321,64 @@ fn plan_singles(readings: &mut [u32], plan: Plan, mark: u32) -> Totals
         clipped += wide(block.clipped);
         missing += wide(block.missing);
         a = e;
+    }
+    Totals {
+        changed,
+        marked,
+        clipped,
+        missing,
+    }
+}
+
+// Method 6 over singles, with n digits. The table is named once for the array.
+fn digit_singles(readings: &mut [u32], n: u32, mark: u32) -> Totals
+    requires { ⌜ (1 ≤ n) × (n ≤ 7) ⌝ }
+    ensures sums { λ r. ⌜ r ≡ singlesTotal (λ i w. singleBy (digits n) mark 0 w) (now (readings .entry)) ⌝ }
+    ensures content { λ _. ⌜ now (readings .exit) ≡ singlesLeft (λ i w. singleBy (digits n) mark 0 w) (now (readings .entry)) ⌝ }
+{
+    let table = powers::POWERS;
+    let mut changed: u64 = 0;
+    let mut marked: u64 = 0;
+    let mut clipped: u64 = 0;
+    let mut missing: u64 = 0;
+    let mut i: usize = 0;
+    while i < readings.len() {
+        let one = reading::digit_single(&table, readings[i], n, mark);
+        readings[i] = one.pattern;
+        changed += wide(one.changed);
+        marked += wide(one.marked);
+        clipped += wide(one.clipped);
+        missing += wide(one.missing);
+        i += 1;
+    }
+    Totals {
+        changed,
+        marked,
+        clipped,
+        missing,
+    }
+}
+
+// Method 6 over doubles, with n digits. The table is named once for the array.
+fn digit_doubles(readings: &mut [u64], n: u32, mark: u64) -> Totals
+    requires { ⌜ (1 ≤ n) × (n ≤ 15) ⌝ }
+    ensures sums { λ r. ⌜ r ≡ doublesSummed (λ i w. doubleBy (digits n) mark 0 w) (now (readings .entry)) ⌝ }
+    ensures content { λ _. ⌜ now (readings .exit) ≡ doublesLeft (λ i w. doubleBy (digits n) mark 0 w) (now (readings .entry)) ⌝ }
+{
+    let table = powers::POWERS;
+    let mut changed: u64 = 0;
+    let mut marked: u64 = 0;
+    let mut clipped: u64 = 0;
+    let mut missing: u64 = 0;
+    let mut i: usize = 0;
+    while i < readings.len() {
+        let one = reading::digit_double(&table, readings[i], n, mark);
+        readings[i] = one.pattern;
+        changed += one.changed;
+        marked += one.marked;
+        clipped += one.clipped;
+        missing += one.missing;
+        i += 1;
     }
     Totals {
         changed,
