@@ -20,7 +20,7 @@ use Rattle.meaning.proofs.Accepted.{Ready}
 use Rattle.meaning.proofs.OneReading.{trimmed-other, trimmed-spared, trimmed-result, new-below}
 use Rattle.reading.specs.Left.{unlessMissing, leftFrom, wanted, wantedBy, over}
 
-on-grid : (t m : ℕ) → shaved t m ≡ m → rounded t m ≡ m
+pub on-grid : (t m : ℕ) → shaved t m ≡ m → rounded t m ≡ m
 unfolding shaved rounded
 on-grid t m s = ap (λ (x : ℕ). nearest x (2 ^ t) * 2 ^ t) (sym s) ∙ ap (λ (x : ℕ). x * 2 ^ t) (nearest-multiple (m / 2 ^ t) (2 ^ t) (pow-pos t)) ∙ s
 

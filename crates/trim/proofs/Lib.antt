@@ -2,3 +2,5 @@ pub mod Walks
 pub mod Few
 pub mod Blocks
 pub mod Planned
+pub mod Meaning
+pub mod Tails
