@@ -78,7 +78,7 @@ pub fn settle_double(x: u64, z: u64, over: u64, mark: u64) -> Double
 }
 
 // 2^t.
-fn power_single(t: u32) -> u32
+pub fn power_single(t: u32) -> u32
     requires { ⌜ t ≤ 23 ⌝ }
     ensures { λ r. ⌜ r ≡ 2 ^ t ⌝ }
 {
@@ -131,7 +131,7 @@ pub fn round_single(x: u32, t: u32, mark: u32) -> Single
 }
 
 // 2^t.
-fn power_double(t: u32) -> u64
+pub fn power_double(t: u32) -> u64
     requires { ⌜ t ≤ 52 ⌝ }
     ensures { λ r. ⌜ r ≡ 2 ^ t ⌝ }
 {

@@ -4,3 +4,4 @@ pub mod Blocks
 pub mod Planned
 pub mod Meaning
 pub mod Tails
+pub mod Plans

@@ -1,5 +1,6 @@
 -- What methods 0 to 3 put into the tail, as one thing at even places and one at odd ones; and method 4 with no tail.
 use mathlib.Core.Path.{_≡_, refl, sym, ap, _∙_}
+use mathlib.Core.Logic.{_≢_}
 use mathlib.Core.Bool.{Bool, true, false, cond}
 use Prim.Native.Nat.{ℕ, zero, suc, _+_, _-_, _*_, _/_, _%_, _^_, _≤_, _<_}
 use native.Mathlib.Nat.{add-zero, div-mul-le-self, sub-self}
@@ -15,12 +16,9 @@ use Rattle.reading.specs.Left.{wanted, wantedBy, over, tailAdded, singleFrom, d
 use Rattle.reading.proofs.Counted.{on-grid}
 use Rattle.reading.proofs.Words.{wanted-sum}
 use Rattle.reading.proofs.Bys.{single-by, double-by}
+use Rattle.asking.specs.Asked.{methodBy}
+use Rattle.trim.specs.Plans.{halfUnit, evenBy, oddBy}
 use Rattle.trim.specs.Walk.{addAt, tailSingle, tailDouble}
-
--- half a unit, and nothing where there is no tail
-abbrev pub halfUnit : ℕ → ℕ
-halfUnit zero = 0
-halfUnit (suc t) = 2 ^ t
 
 -- what each method puts there at even and at odd places
 abbrev pub evenAdd : TailMethod → ℕ → ℕ
@@ -34,6 +32,14 @@ oddAdd shave t = 0
 oddAdd set t = 2 ^ t - 1
 oddAdd groom t = 2 ^ t - 1
 oddAdd halfshave t = halfUnit t
+
+pub half-none : (t : ℕ) → t ≡ 0 → 0 ≡ halfUnit t
+half-none zero e = refl
+half-none (suc t) e = absurd (omega arith)
+
+pub half-some : (t H : ℕ) → t ≢ 0 → H ≡ 2 ^ (t - 1) → H ≡ halfUnit t
+half-some zero H n e = absurd (n refl)
+half-some (suc t) H n e = e ∙ ap (λ (x : ℕ). 2 ^ x) (let z : suc t - 1 ≡ t = omega arith in z)
 
 half-fits : (t : ℕ) → halfUnit t < 2 ^ t
 half-fits zero = pow-pos 0
@@ -161,3 +167,37 @@ double-none mark place w =
     ∙ double-by (round 52) mark w (tailAdded 0 0 (magnitude 52 11 w)) 0 (wanted 52 11 w (tailAdded 0 0 (magnitude 52 11 w)))
     (none-new 52 11 (magnitude 52 11 w)) (none-over 52 11 w) (sym (wanted-sum 52 11 w (tailAdded 0 0 (magnitude 52 11 w))))
     ∙ double-placeless (round 52) (round-placeless 52 11 52) mark place w
+
+-- ---- by a method's number
+
+pub even-by : (method t : ℕ) → method < 4 → evenBy method t < 2 ^ t
+unfolding evenBy
+even-by zero t h = even-fits shave t
+even-by (suc zero) t h = even-fits set t
+even-by (suc (suc zero)) t h = even-fits groom t
+even-by (suc (suc (suc zero))) t h = even-fits halfshave t
+even-by (suc (suc (suc (suc m)))) t h = absurd (omega arith)
+
+pub odd-by : (method t : ℕ) → method < 4 → oddBy method t < 2 ^ t
+unfolding oddBy evenBy
+odd-by zero t h = odd-fits shave t
+odd-by (suc zero) t h = odd-fits set t
+odd-by (suc (suc zero)) t h = odd-fits groom t
+odd-by (suc (suc (suc zero))) t h = odd-fits halfshave t
+odd-by (suc (suc (suc (suc m)))) t h = absurd (omega arith)
+
+pub single-tail-by : (method n t mark place w : ℕ) → method < 4 → t ≡ 23 - n → tailSingle t (evenBy method t) (oddBy method t) mark place w ≡ singleBy (methodBy method n) mark place w
+unfolding methodBy oddBy evenBy
+single-tail-by zero n t mark place w h e = single-tail shave n t mark place w e
+single-tail-by (suc zero) n t mark place w h e = single-tail set n t mark place w e
+single-tail-by (suc (suc zero)) n t mark place w h e = single-tail groom n t mark place w e
+single-tail-by (suc (suc (suc zero))) n t mark place w h e = single-tail halfshave n t mark place w e
+single-tail-by (suc (suc (suc (suc m)))) n t mark place w h e = absurd (omega arith)
+
+pub double-tail-by : (method n t mark place w : ℕ) → method < 4 → t ≡ 52 - n → tailDouble t (evenBy method t) (oddBy method t) mark place w ≡ doubleBy (methodBy method n) mark place w
+unfolding methodBy oddBy evenBy
+double-tail-by zero n t mark place w h e = double-tail shave n t mark place w e
+double-tail-by (suc zero) n t mark place w h e = double-tail set n t mark place w e
+double-tail-by (suc (suc zero)) n t mark place w h e = double-tail groom n t mark place w e
+double-tail-by (suc (suc (suc zero))) n t mark place w h e = double-tail halfshave n t mark place w e
+double-tail-by (suc (suc (suc (suc m)))) n t mark place w h e = absurd (omega arith)

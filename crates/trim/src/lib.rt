@@ -5,6 +5,7 @@ ghost use Prim.Native.Nat.{min, _-_, _^_, _<_, _≤_};
 ghost use lib.ListN.{length};
 ghost use Rattle.meaning.specs.Methods.{round, absolute, digits};
 ghost use Rattle.reading.specs.Left.{singleBy, doubleBy};
+ghost use Rattle.trim.specs.Plans.{halfUnit, evenBy, oddBy, Plans};
 ghost use Rattle.trim.specs.Walk.{Sound, planned, singlesLeft, singlesSummed, singlesTotal, doublesLeft, doublesSummed, addAt, tailSingle, tailDouble};
 
 // The sums over a block of singles: places changed, places where the reading or its result is the mark, places clipped, places missing.
@@ -385,5 +386,145 @@ fn digit_doubles(readings: &mut [u64], n: u32, mark: u64) -> Totals
         marked,
         clipped,
         missing,
+    }
+}
+
+// What methods 0 to 3 put into the tail of t bits at even places: all ones, a one and zeros, or nothing.
+fn even_single(method: u32, t: u32) -> u32
+    requires { ⌜ t ≤ 23 ⌝ }
+    ensures { λ r. ⌜ r ≡ evenBy method t ⌝ }
+{
+    if method == 1 {
+        return reading::power_single(t) - 1;
+    }
+    if method == 3 {
+        return half_single(t);
+    }
+    0
+}
+
+// And at odd places.
+fn odd_single(method: u32, t: u32) -> u32
+    requires { ⌜ t ≤ 23 ⌝ }
+    ensures { λ r. ⌜ r ≡ oddBy method t ⌝ }
+{
+    if method == 2 {
+        return reading::power_single(t) - 1;
+    }
+    even_single(method, t)
+}
+
+// Half a unit of t bits, and nothing where t is 0.
+fn half_single(t: u32) -> u32
+    requires { ⌜ t ≤ 23 ⌝ }
+    ensures { λ r. ⌜ r ≡ halfUnit t ⌝ }
+{
+    if t == 0 {
+        return 0;
+    }
+    reading::power_single(t - 1)
+}
+
+// What methods 0 to 3 put into the tail of t bits at even places: all ones, a one and zeros, or nothing.
+fn even_double(method: u32, t: u32) -> u64
+    requires { ⌜ t ≤ 52 ⌝ }
+    ensures { λ r. ⌜ r ≡ evenBy method t ⌝ }
+{
+    if method == 1 {
+        return reading::power_double(t) - 1;
+    }
+    if method == 3 {
+        return half_double(t);
+    }
+    0
+}
+
+// And at odd places.
+fn odd_double(method: u32, t: u32) -> u64
+    requires { ⌜ t ≤ 52 ⌝ }
+    ensures { λ r. ⌜ r ≡ oddBy method t ⌝ }
+{
+    if method == 2 {
+        return reading::power_double(t) - 1;
+    }
+    even_double(method, t)
+}
+
+// Half a unit of t bits, and nothing where t is 0.
+fn half_double(t: u32) -> u64
+    requires { ⌜ t ≤ 52 ⌝ }
+    ensures { λ r. ⌜ r ≡ halfUnit t ⌝ }
+{
+    if t == 0 {
+        return 0;
+    }
+    reading::power_double(t - 1)
+}
+
+// The plan of methods 0 to 5 for singles, by a method's number and its natural setting.
+fn plan_single(method: u32, n: u32) -> Plan
+    requires { ⌜ (method ≤ 5) × (method ≤ 4 → n ≤ 23) ⌝ }
+    ensures { λ r. ⌜ Plans method n r ⌝ }
+{
+    if method == 5 {
+        return step_plan(n);
+    }
+    if method == 4 {
+        return round_plan(23 - n);
+    }
+    let t = 23 - n;
+    let even = even_single(method, t);
+    let odd = odd_single(method, t);
+    Plan {
+        kind: 0,
+        t,
+        even,
+        odd,
+        q: 0,
+    }
+}
+
+// The plan of method 4 with a tail of t bits: with no tail, nothing is added to it.
+fn round_plan(t: u32) -> Plan
+    requires { ⌜ t ≤ 23 ⌝ }
+    ensures { λ r. ⌜ Plans 4 (23 - t) r ⌝ }
+{
+    if t == 0 {
+        return Plan {
+            kind: 0,
+            t: 0,
+            even: 0,
+            odd: 0,
+            q: 0,
+        };
+    }
+    Plan {
+        kind: 1,
+        t,
+        even: 0,
+        odd: 0,
+        q: 0,
+    }
+}
+
+// The plan of method 5 with the unit 2^q: by the float adder where it serves.
+fn step_plan(q: u32) -> Plan
+    ensures { λ r. ⌜ Plans 5 q r ⌝ }
+{
+    if q <= 252 {
+        return Plan {
+            kind: 2,
+            t: 0,
+            even: 0,
+            odd: 0,
+            q,
+        };
+    }
+    Plan {
+        kind: 3,
+        t: 0,
+        even: 0,
+        odd: 0,
+        q,
     }
 }

@@ -1,0 +1,2 @@
+-- What the questions before a trim give the code.
+pub mod Asked

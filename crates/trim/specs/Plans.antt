@@ -1,0 +1,25 @@
+-- What methods 0 to 3 put into a tail of t bits, by a method's number; and a plan that trims singles by a method.
+use mathlib.Core.Path.{_≡_}
+use mathlib.Core.Bool.{cond}
+use Prim.Native.Nat.{ℕ, zero, suc, _-_, _^_}
+use lib.Dec.{eqb}
+use Rattle.reading.specs.Left.{singleBy}
+use Rattle.asking.specs.Asked.{methodBy}
+use Rattle.trim.specs.declared.Plan.{Plan}
+use Rattle.trim.specs.Walk.{Sound, planned}
+
+-- half a unit, and nothing where there is no tail
+abbrev pub halfUnit : ℕ → ℕ
+halfUnit zero = 0
+halfUnit (suc t) = 2 ^ t
+
+-- at even and at odd places
+unfoldable pub evenBy : ℕ → ℕ → ℕ
+evenBy method t = cond (eqb method 1) (2 ^ t - 1) (cond (eqb method 3) (halfUnit t) 0)
+
+unfoldable pub oddBy : ℕ → ℕ → ℕ
+oddBy method t = cond (eqb method 2) (2 ^ t - 1) (evenBy method t)
+
+pub record Plans (method n : ℕ) (p : Plan) : Type 0 where
+  pub sound : Sound p
+  pub same : (mark place w : ℕ) → planned p mark place w ≡ singleBy (methodBy method n) mark place w
