@@ -5,3 +5,4 @@ pub mod Planned
 pub mod Meaning
 pub mod Tails
 pub mod Plans
+pub mod Methods

@@ -5,7 +5,8 @@ ghost use Prim.Native.Nat.{min, _-_, _^_, _<_, _≤_};
 ghost use lib.ListN.{length};
 ghost use Rattle.meaning.specs.Methods.{round, absolute, digits};
 ghost use Rattle.reading.specs.Left.{singleBy, doubleBy};
-ghost use Rattle.trim.specs.Plans.{halfUnit, evenBy, oddBy, Plans};
+ghost use Rattle.asking.specs.Asked.{methodBy};
+ghost use Rattle.trim.specs.Plans.{halfUnit, evenBy, oddBy, Plans, Fitting};
 ghost use Rattle.trim.specs.Walk.{Sound, planned, singlesLeft, singlesSummed, singlesTotal, doublesLeft, doublesSummed, addAt, tailSingle, tailDouble};
 
 // The sums over a block of singles: places changed, places where the reading or its result is the mark, places clipped, places missing.
@@ -527,4 +528,70 @@ fn step_plan(q: u32) -> Plan
         odd: 0,
         q,
     }
+}
+
+// Singles by a method's number and its natural setting.
+fn method_singles(readings: &mut [u32], method: u32, n: u32, mark: u32) -> Totals
+    requires { ⌜ Fitting method n 23 7 ⌝ }
+    ensures sums { λ r. ⌜ r ≡ singlesTotal (λ i w. singleBy (methodBy method n) mark i w) (now (readings .entry)) ⌝ }
+    ensures content { λ _. ⌜ now (readings .exit) ≡ singlesLeft (λ i w. singleBy (methodBy method n) mark i w) (now (readings .entry)) ⌝ }
+{
+    if method == 6 {
+        return digit_singles(readings, n, mark);
+    }
+    let plan = plan_single(method, n);
+    plan_singles(readings, plan, mark)
+}
+
+// Method 4 over doubles with a tail of t bits, or none.
+fn rounded_doubles(readings: &mut [u64], t: u32, mark: u64) -> Totals
+    requires { ⌜ t ≤ 52 ⌝ }
+    ensures sums { λ r. ⌜ r ≡ doublesSummed (λ i w. doubleBy (round (52 - t)) mark i w) (now (readings .entry)) ⌝ }
+    ensures content { λ _. ⌜ now (readings .exit) ≡ doublesLeft (λ i w. doubleBy (round (52 - t)) mark i w) (now (readings .entry)) ⌝ }
+{
+    if t == 0 {
+        return tail_doubles(readings, 0, 0, 0, mark);
+    }
+    round_doubles(readings, t, mark)
+}
+
+// Method 5 over doubles with the unit 2^q: by the float adder where it serves.
+fn step_doubles(readings: &mut [u64], q: u64, mark: u64) -> Totals
+    ensures sums { λ r. ⌜ r ≡ doublesSummed (λ i w. doubleBy (absolute q) mark i w) (now (readings .entry)) ⌝ }
+    ensures content { λ _. ⌜ now (readings .exit) ≡ doublesLeft (λ i w. doubleBy (absolute q) mark i w) (now (readings .entry)) ⌝ }
+{
+    if q <= 2044 {
+        return fine_doubles(readings, q, mark);
+    }
+    coarse_doubles(readings, q, mark)
+}
+
+// Methods 0 to 3 over doubles, by the method's number and its keep bits.
+fn tails_doubles(readings: &mut [u64], method: u32, n: u32, mark: u64) -> Totals
+    requires { ⌜ (method < 4) × (n ≤ 52) ⌝ }
+    ensures sums { λ r. ⌜ r ≡ doublesSummed (λ i w. doubleBy (methodBy method n) mark i w) (now (readings .entry)) ⌝ }
+    ensures content { λ _. ⌜ now (readings .exit) ≡ doublesLeft (λ i w. doubleBy (methodBy method n) mark i w) (now (readings .entry)) ⌝ }
+{
+    let t = 52 - n;
+    let even = even_double(method, t);
+    let odd = odd_double(method, t);
+    tail_doubles(readings, t, even, odd, mark)
+}
+
+// Doubles by a method's number and its natural setting.
+fn method_doubles(readings: &mut [u64], method: u32, n: u32, mark: u64) -> Totals
+    requires { ⌜ Fitting method n 52 15 ⌝ }
+    ensures sums { λ r. ⌜ r ≡ doublesSummed (λ i w. doubleBy (methodBy method n) mark i w) (now (readings .entry)) ⌝ }
+    ensures content { λ _. ⌜ now (readings .exit) ≡ doublesLeft (λ i w. doubleBy (methodBy method n) mark i w) (now (readings .entry)) ⌝ }
+{
+    if method == 6 {
+        return digit_doubles(readings, n, mark);
+    }
+    if method == 5 {
+        return step_doubles(readings, wide(n), mark);
+    }
+    if method == 4 {
+        return rounded_doubles(readings, 52 - n, mark);
+    }
+    tails_doubles(readings, method, n, mark)
 }
