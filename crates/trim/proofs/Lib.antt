@@ -6,3 +6,4 @@ pub mod Meaning
 pub mod Tails
 pub mod Plans
 pub mod Methods
+pub mod Calls

@@ -5,7 +5,9 @@ ghost use Prim.Native.Nat.{min, _-_, _^_, _<_, _≤_};
 ghost use lib.ListN.{length};
 ghost use Rattle.meaning.specs.Methods.{round, absolute, digits};
 ghost use Rattle.reading.specs.Left.{singleBy, doubleBy};
+ghost use Rattle.meaning.specs.Calls.{trimSingles, trimDoubles};
 ghost use Rattle.asking.specs.Asked.{methodBy};
+ghost use Rattle.trim.specs.Answers.{answerOf};
 ghost use Rattle.trim.specs.Plans.{halfUnit, evenBy, oddBy, Plans, Fitting};
 ghost use Rattle.trim.specs.Walk.{Sound, planned, singlesLeft, singlesSummed, singlesTotal, doublesLeft, doublesSummed, addAt, tailSingle, tailDouble};
 
@@ -594,4 +596,53 @@ fn method_doubles(readings: &mut [u64], method: u32, n: u32, mark: u64) -> Total
         return rounded_doubles(readings, 52 - n, mark);
     }
     tails_doubles(readings, method, n, mark)
+}
+
+// What a trim answers: the places changed, spared, clipped and missing, or the refusal's number.
+pub enum Answer {
+    Counts {
+        changed: u64,
+        spared: u64,
+        clipped: u64,
+        missing: u64,
+    },
+    Refused(u32),
+}
+
+// Trims an array of singles in place by a method, 0 to 6, and its setting. The mark means missing and is compared by its bits. Answers the four counts, or the
+// refusal's number: 1 for an unknown method, 2 for a setting out of its range; then the array is as it was.
+pub fn trim_singles(readings: &mut [u32], method: u32, setting: i32, mark: u32) -> Answer
+    ensures answer { λ r. ⌜ answerOf r ≡ trimSingles method setting mark (now (readings .entry)) .answer ⌝ }
+    ensures content { λ _. ⌜ now (readings .exit) ≡ trimSingles method setting mark (now (readings .entry)) .readings ⌝ }
+{
+    let asked = asking::ask_single(method, setting);
+    if asked.refusal != 0 {
+        return Answer::Refused(asked.refusal);
+    }
+    let t = method_singles(readings, method, asked.number, mark);
+    Answer::Counts {
+        changed: t.changed,
+        spared: t.marked - t.missing,
+        clipped: t.clipped,
+        missing: t.missing,
+    }
+}
+
+// Trims an array of doubles in place by a method, 0 to 6, and its setting. The mark means missing and is compared by its bits. Answers the four counts, or the
+// refusal's number: 1 for an unknown method, 2 for a setting out of its range; then the array is as it was.
+pub fn trim_doubles(readings: &mut [u64], method: u32, setting: i32, mark: u64) -> Answer
+    ensures answer { λ r. ⌜ answerOf r ≡ trimDoubles method setting mark (now (readings .entry)) .answer ⌝ }
+    ensures content { λ _. ⌜ now (readings .exit) ≡ trimDoubles method setting mark (now (readings .entry)) .readings ⌝ }
+{
+    let asked = asking::ask_double(method, setting);
+    if asked.refusal != 0 {
+        return Answer::Refused(asked.refusal);
+    }
+    let t = method_doubles(readings, method, asked.number, mark);
+    Answer::Counts {
+        changed: t.changed,
+        spared: t.marked - t.missing,
+        clipped: t.clipped,
+        missing: t.missing,
+    }
 }

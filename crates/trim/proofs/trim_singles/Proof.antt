@@ -1,0 +1,60 @@
+-- Refused or accepted, by the laws of `Calls`.
+use borrow.Author.Needs.{needs}
+use mathlib.Core.Path.{_≡_, ap, _∙_}
+use Prim.Native.Nat.{_-_}
+use lib.IntN.{ℤ}
+use mir.Facts.{toZ-ofZ}
+use Rattle.asking.specs.Asked.{refusalOf, numberOf}
+use Rattle.trim.specs.Answers.{answerOf}
+use Rattle.trim.proofs.Calls.{refused-call, single-fitting, single-fewer, single-accepted}
+use Rattle.trim.proofs.trim_singles.Statement.{statement}
+use Rattle.trim.proofs.trim_singles.Tie as tie
+
+ask-single-requires : tie.Need-ask-single-requires
+ask-single-requires c κs = tt
+
+returns : tie.Need-returns
+unfolding answerOf
+returns c =
+    let s = c .before .before .before .before in
+    let a = c .before .before .ask-single in
+    refused-call 23 8 (s .args .method) (s .args .setting) (s .args .mark) (s .args .readings .now) (a .result .refusal) (c .if1 .taken)
+    (a .ensures .0 ∙ ap (λ (z : ℤ). refusalOf 23 8 (s .args .method) z) (toZ-ofZ (s .fits .setting)))
+
+method-singles-requires : tie.Need-method-singles-requires
+method-singles-requires c κs =
+    let s = c .before .before .before .before .before in
+    let a = c .before .before .before .ask-single in
+    let none = c .before .if1 .left in
+    single-fitting (s .args .method) (s .args .setting) (a .result .refusal) (a .result .number)
+    (a .ensures .0 ∙ ap (λ (z : ℤ). refusalOf 23 8 (s .args .method) z) (toZ-ofZ (s .fits .setting))) none
+    (a .ensures .1 none ∙ ap (λ (z : ℤ). numberOf 23 8 (s .args .method) z) (toZ-ofZ (s .fits .setting)))
+
+sub-t10 : tie.Need-sub-t10
+sub-t10 c =
+    let s = c .before .before .before .before .before .before .before .before .before in
+    let a = c .before .before .before .before .before .before .before .ask-single in
+    let none = c .before .before .before .before .before .if1 .left in
+    let m = c .before .before .before .method-singles in
+    single-fewer (s .args .method) (s .args .setting) (s .args .mark) (s .args .readings .now) (a .result .refusal) (a .result .number)
+    (a .ensures .0 ∙ ap (λ (z : ℤ). refusalOf 23 8 (s .args .method) z) (toZ-ofZ (s .fits .setting))) none
+    (a .ensures .1 none ∙ ap (λ (z : ℤ). numberOf 23 8 (s .args .method) z) (toZ-ofZ (s .fits .setting)))
+    (m .result) (m .ensures .0)
+
+same-length : tie.Need-same-length
+same-length c = search needs
+
+returns-2 : tie.Need-returns-2
+unfolding answerOf
+returns-2 c =
+    let s = c .before .before .before .before .before .before .before .before .before in
+    let a = c .before .before .before .before .before .before .before .ask-single in
+    let none = c .before .before .before .before .before .if1 .left in
+    let m = c .before .before .before .method-singles in
+    single-accepted (s .args .method) (s .args .setting) (s .args .mark) (s .args .readings .now) (a .result .refusal) (a .result .number)
+    (a .ensures .0 ∙ ap (λ (z : ℤ). refusalOf 23 8 (s .args .method) z) (toZ-ofZ (s .fits .setting))) none
+    (a .ensures .1 none ∙ ap (λ (z : ℤ). numberOf 23 8 (s .args .method) z) (toZ-ofZ (s .fits .setting)))
+    (m .result) (m .ensures .0) (m .last .0) (m .ensures .1)
+
+pub trim-singles-spec : {M : Type 1} → statement M
+trim-singles-spec = tie.close (tie.spec ask-single-requires returns method-singles-requires sub-t10 same-length returns-2)
