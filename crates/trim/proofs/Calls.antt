@@ -39,14 +39,14 @@ fitting b = record { known = b .known; keep = b .keep; some = b .some; few = b .
 pub single-fitting : (method : ℕ) (s : ℤ) (r n : ℕ) → r ≡ refusalOf 23 8 method s → r ≡ 0 → n ≡ numberOf 23 8 method s → Fitting method n 23 7
 single-fitting method s r n e z m = subst (λ (k : ℕ). Fitting method k 23 7) (sym m) (fitting (single-bounds method s (sym e ∙ z)))
 
-module _ (method : ℕ) (s : ℤ) (mark : ℕ) (ws : List ℕ) (r n : ℕ) (e : r ≡ refusalOf 23 8 method s) (z : r ≡ 0) (m : n ≡ numberOf 23 8 method s) where
-  single-asked : trimQuestions 23 8 method s ≡ accepted (methodBy method n)
+module _ (method : ℕ) (s : ℤ) (mark : ℕ) (r n : ℕ) (e : r ≡ refusalOf 23 8 method s) (z : r ≡ 0) (m : n ≡ numberOf 23 8 method s) where
+  pub single-asked : trimQuestions 23 8 method s ≡ accepted (methodBy method n)
   single-asked = accepted-is 23 8 method s (sym e ∙ z) ∙ ap (λ (k : ℕ). accepted (methodBy method k)) (sym m)
 
-  single-ready : Ready (methodBy method n)
+  pub single-ready : Ready (methodBy method n)
   single-ready = accepted-ready 23 8 method s (methodBy method n) single-asked
 
-  module _ (t : Totals) (te : t ≡ singlesTotal (λ i w. singleBy (methodBy method n) mark i w) ws) where
+  module _ (ws : List ℕ) (t : Totals) (te : t ≡ singlesTotal (λ i w. singleBy (methodBy method n) mark i w) ws) where
     pub single-fewer : t .missing ≤ t .marked
     single-fewer = subst (λ (u : Totals). u .missing ≤ u .marked) (sym te) (singles-fewer (methodBy method n) single-ready mark (λ i w. singleBy (methodBy method n) mark i w) (λ i w. refl) ws)
 

@@ -7,3 +7,4 @@ pub mod Tails
 pub mod Plans
 pub mod Methods
 pub mod Calls
+pub mod Loader

@@ -5,7 +5,7 @@ ghost use Prim.Native.Nat.{min, _-_, _^_, _<_, _≤_};
 ghost use lib.ListN.{length};
 ghost use Rattle.meaning.specs.Methods.{round, absolute, digits};
 ghost use Rattle.reading.specs.Left.{singleBy, doubleBy};
-ghost use Rattle.meaning.specs.Calls.{trimSingles, trimDoubles};
+ghost use Rattle.meaning.specs.Calls.{trimSingles, trimDoubles, loader};
 ghost use Rattle.asking.specs.Asked.{methodBy};
 ghost use Rattle.trim.specs.Answers.{answerOf};
 ghost use Rattle.trim.specs.Plans.{halfUnit, evenBy, oddBy, Plans, Fitting};
@@ -645,4 +645,45 @@ pub fn trim_doubles(readings: &mut [u64], method: u32, setting: i32, mark: u64) 
         clipped: t.clipped,
         missing: t.missing,
     }
+}
+
+// One single by its plan, at a place.
+fn planned_single(plan: Plan, x: u32, place: u64, mark: u32) -> reading::Single
+    requires { ⌜ Sound plan ⌝ }
+    ensures { λ r. ⌜ r ≡ planned plan mark place x ⌝ }
+{
+    if plan.kind == 0 {
+        let add = single_at(place as usize, plan.even, plan.odd);
+        return reading::tail_single(x, plan.t, add, mark);
+    }
+    if plan.kind == 1 {
+        return reading::round_single(x, plan.t, mark);
+    }
+    reading::coarse_single(x, plan.q, mark)
+}
+
+// One single by a method's number and its natural setting, at a place.
+fn method_single(x: u32, method: u32, n: u32, mark: u32, place: u64) -> reading::Single
+    requires { ⌜ Fitting method n 23 7 ⌝ }
+    ensures { λ r. ⌜ r ≡ singleBy (methodBy method n) mark place x ⌝ }
+{
+    if method == 6 {
+        let table = powers::POWERS;
+        return reading::digit_single(&table, x, n, mark);
+    }
+    let plan = plan_single(method, n);
+    planned_single(plan, x, place, mark)
+}
+
+// Trims one single as the array call would at a place, through numbers alone: the pattern that is left, or 2^32 plus the refusal's number. Only the place's parity
+// matters.
+pub fn trim_single(x: u32, method: u32, setting: i32, mark: u32, place: u64) -> u64
+    ensures { λ r. ⌜ r ≡ loader method setting mark place x ⌝ }
+{
+    let asked = asking::ask_single(method, setting);
+    if asked.refusal != 0 {
+        return 4294967296 + wide(asked.refusal);
+    }
+    let one = method_single(x, method, asked.number, mark, place);
+    wide(one.pattern)
 }

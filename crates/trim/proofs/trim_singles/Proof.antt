@@ -36,10 +36,10 @@ sub-t10 c =
     let a = c .before .before .before .before .before .before .before .ask-single in
     let none = c .before .before .before .before .before .if1 .left in
     let m = c .before .before .before .method-singles in
-    single-fewer (s .args .method) (s .args .setting) (s .args .mark) (s .args .readings .now) (a .result .refusal) (a .result .number)
+    single-fewer (s .args .method) (s .args .setting) (s .args .mark) (a .result .refusal) (a .result .number)
     (a .ensures .0 ∙ ap (λ (z : ℤ). refusalOf 23 8 (s .args .method) z) (toZ-ofZ (s .fits .setting))) none
     (a .ensures .1 none ∙ ap (λ (z : ℤ). numberOf 23 8 (s .args .method) z) (toZ-ofZ (s .fits .setting)))
-    (m .result) (m .ensures .0)
+    (s .args .readings .now) (m .result) (m .ensures .0)
 
 same-length : tie.Need-same-length
 same-length c = search needs
@@ -51,10 +51,10 @@ returns-2 c =
     let a = c .before .before .before .before .before .before .before .ask-single in
     let none = c .before .before .before .before .before .if1 .left in
     let m = c .before .before .before .method-singles in
-    single-accepted (s .args .method) (s .args .setting) (s .args .mark) (s .args .readings .now) (a .result .refusal) (a .result .number)
+    single-accepted (s .args .method) (s .args .setting) (s .args .mark) (a .result .refusal) (a .result .number)
     (a .ensures .0 ∙ ap (λ (z : ℤ). refusalOf 23 8 (s .args .method) z) (toZ-ofZ (s .fits .setting))) none
     (a .ensures .1 none ∙ ap (λ (z : ℤ). numberOf 23 8 (s .args .method) z) (toZ-ofZ (s .fits .setting)))
-    (m .result) (m .ensures .0) (m .last .0) (m .ensures .1)
+    (s .args .readings .now) (m .result) (m .ensures .0) (m .last .0) (m .ensures .1)
 
 pub trim-singles-spec : {M : Type 1} → statement M
 trim-singles-spec = tie.close (tie.spec ask-single-requires returns method-singles-requires sub-t10 same-length returns-2)

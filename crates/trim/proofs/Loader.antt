@@ -1,0 +1,25 @@
+-- What the loader's call answers, refused or accepted, is the definition's; it leaves a reading as the array call does at that place, and only the place's parity
+-- matters.
+use mathlib.Core.Path.{_≡_, refl, sym, ap, _∙_}
+use mathlib.Core.Logic.{_≢_}
+use Prim.Native.Nat.{ℕ, suc, _+_, _%_, _^_, _≤_, _<_}
+use lib.IntN.{ℤ}
+use Rattle.meaning.specs.Methods.{trimmed}
+use Rattle.meaning.specs.Questions.{accepted, trimQuestions}
+use Rattle.meaning.specs.Calls.{answering, loaderNumber, loader}
+use Rattle.reading.specs.declared.Single.{Single}
+use Rattle.reading.specs.Left.{singleFrom, singleBy}
+use Rattle.reading.proofs.Counted.{left-is}
+use Rattle.asking.specs.Asked.{methodBy, refusalOf, numberOf}
+use Rattle.asking.proofs.Questions.{refused-is}
+use Rattle.trim.proofs.Calls.{single-asked, single-ready}
+
+module _ (method : ℕ) (s : ℤ) (mark place w : ℕ) (r : ℕ) (e : r ≡ refusalOf 23 8 method s) where
+  pub refused-loader : r ≢ 0 → 2 ^ 32 + r ≡ loader method s mark place w
+  unfolding loader loaderNumber answering
+  refused-loader n = rw (refused-is 23 8 method s (λ z. n (e ∙ z))) (ap (λ (k : ℕ). 2 ^ 32 + k) e)
+
+  pub accepted-loader : r ≡ 0 → (n : ℕ) → n ≡ numberOf 23 8 method s → (one : Single) → one ≡ singleBy (methodBy method n) mark place w → one .pattern ≡ loader method s mark place w
+  unfolding loader loaderNumber answering singleBy singleFrom
+  accepted-loader z n m one o =
+      rw (single-asked method s mark r n e z m) (ap (λ (t : Single). t .pattern) o ∙ left-is 23 8 (methodBy method n) (single-ready method s mark r n e z m) mark place w)
