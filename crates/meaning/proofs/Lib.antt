@@ -23,3 +23,4 @@ pub mod Claim
 pub mod Exponents
 pub mod Layering
 pub mod Packed
+pub mod Loader

@@ -5,8 +5,6 @@ use Prim.Native.Nat.{ℕ, _+_, _-_, _<_}
 use lib.Dec.{eqb, ltb}
 use Rattle.meaning.specs.Readings.{magnitude, infinity}
 use Rattle.meaning.specs.Methods.{Method, newMagnitude}
-use Rattle.reading.specs.declared.Single.{Single}
-use Rattle.reading.specs.declared.Double.{Double}
 use Rattle.reading.specs.Left.{unlessMissing, leftFrom, singleFrom, doubleFrom, over, singleBy, doubleBy}
 use Rattle.reading.proofs.Words.{by-word, by-clip}
 

@@ -4,8 +4,8 @@ use mathlib.Core.Logic.{_≢_}
 use mathlib.Core.List.{List}
 use Prim.Native.Nat.{ℕ, _-_, _≤_}
 use lib.IntN.{ℤ}
-use Rattle.meaning.specs.Methods.{Method, Counts, trimFrom, counts}
-use Rattle.meaning.specs.Questions.{Outcome, refused, accepted, trimQuestions}
+use Rattle.meaning.specs.Methods.{Method, trimFrom, counts}
+use Rattle.meaning.specs.Questions.{refused, accepted, trimQuestions}
 use Rattle.meaning.specs.Calls.{answering, leaving, trim}
 use Rattle.meaning.proofs.Accepted.{Ready, accepted-ready}
 use Rattle.reading.specs.Left.{singleBy, doubleBy}

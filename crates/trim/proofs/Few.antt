@@ -12,10 +12,8 @@ use Rattle.reading.proofs.Words.{cond-lt}
 use Rattle.meaning.specs.Readings.{magnitude}
 use Rattle.meaning.specs.Methods.{Method, clips}
 use Rattle.reading.specs.Left.{unlessMissing, leftFrom, singleFrom, doubleFrom, wantedBy, over, singleBy, doubleBy}
-use Rattle.trim.specs.declared.Block.{Block}
-use Rattle.trim.specs.declared.Totals.{Totals}
 use Rattle.trim.specs.Walk.{addAt, singlesLeft, singlesSummed, singlesTotal, doublesLeft, doublesSummed}
-use Rattle.trim.proofs.Walks.{One, Turn, Ended, start, turn, finish}
+use Rattle.trim.proofs.Walks.{Turn, start, turn, finish}
 
 bit-of : (b : Bool) (m n : ℕ) → m ≤ 1 → n ≤ 1 → cond b m n ≤ 1
 bit-of true m n h k = h

@@ -1,11 +1,9 @@
--- What the loader's call answers, refused or accepted, is the definition's; it leaves a reading as the array call does at that place, and only the place's parity
--- matters.
-use mathlib.Core.Path.{_≡_, refl, sym, ap, _∙_}
+-- What the loader's call answers, refused or accepted, is the definition's.
+use mathlib.Core.Path.{_≡_, ap, _∙_}
 use mathlib.Core.Logic.{_≢_}
-use Prim.Native.Nat.{ℕ, suc, _+_, _%_, _^_, _≤_, _<_}
+use Prim.Native.Nat.{ℕ, _+_, _^_}
 use lib.IntN.{ℤ}
-use Rattle.meaning.specs.Methods.{trimmed}
-use Rattle.meaning.specs.Questions.{accepted, trimQuestions}
+use Rattle.meaning.specs.Questions.{accepted}
 use Rattle.meaning.specs.Calls.{answering, loaderNumber, loader}
 use Rattle.reading.specs.declared.Single.{Single}
 use Rattle.reading.specs.Left.{singleFrom, singleBy}

@@ -1,15 +1,15 @@
 -- A walk is document 01's trim of an array with its four counts, where each reading is left and counted as the method says.
-use mathlib.Core.Path.{_≡_, refl, sym, ap, ap₂, _∙_}
+use mathlib.Core.Path.{_≡_, refl, ap, ap₂, _∙_}
 use mathlib.Core.Bool.{Bool, cond}
 use mathlib.Core.List.{List, [], _∷_}
 use Prim.Native.Nat.{ℕ, suc, _+_, _-_, _≤_}
 use native.Mathlib.Omega.{arith}
 use Rattle.meaning.specs.Readings.{missing}
-use Rattle.meaning.specs.Methods.{Method, Counts, placeAfter, trimmed, trimFrom, countFrom, changed, spared, clipped, counts}
+use Rattle.meaning.specs.Methods.{Method, placeAfter, trimmed, trimFrom, countFrom, changed, spared, clipped, counts}
 use Rattle.meaning.proofs.Accepted.{Ready}
 use Rattle.reading.specs.declared.Single.{Single}
 use Rattle.reading.specs.declared.Double.{Double}
-use Rattle.reading.specs.Left.{unlessMissing, leftFrom, wantedBy, over, singleFrom, doubleFrom, singleBy, doubleBy}
+use Rattle.reading.specs.Left.{singleFrom, doubleFrom, singleBy, doubleBy}
 use Rattle.reading.proofs.Counted.{left-is, changed-is, marked-is, clipped-is}
 use Rattle.trim.specs.declared.Totals.{Totals}
 use Rattle.trim.specs.Walk.{mapFrom, sumFrom, singlesLeft, singlesTotal, doublesLeft, doublesSummed}

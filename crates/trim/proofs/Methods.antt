@@ -1,6 +1,5 @@
 -- Each loop's walk is that of a method, at every place.
-use mathlib.Core.Path.{_≡_, refl, sym, ap, _∙_, fun-ext}
-use mathlib.Core.Logic.{_≢_}
+use mathlib.Core.Path.{_≡_, refl, ap, _∙_, fun-ext}
 use Prim.Native.Nat.{ℕ, _-_, _≤_, _<_}
 use native.Mathlib.Omega.{arith}
 use Rattle.meaning.specs.Methods.{Method, round, absolute, digits, newMagnitude}
@@ -11,7 +10,7 @@ use Rattle.asking.specs.Asked.{methodBy}
 use Rattle.trim.specs.declared.Plan.{Plan}
 use Rattle.trim.specs.Plans.{evenBy, oddBy, Plans}
 use Rattle.trim.specs.Walk.{planned, tailDouble}
-use Rattle.trim.proofs.Tails.{double-tail-by, double-none, single-placeless, double-placeless, round-placeless, absolute-placeless, digits-placeless}
+use Rattle.trim.proofs.Tails.{double-tail-by, double-none, single-placeless, double-placeless, digits-placeless}
 
 pub by-six : (method n : ℕ) → method ≡ 6 → digits n ≡ methodBy method n
 unfolding methodBy

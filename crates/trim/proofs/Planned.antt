@@ -12,7 +12,6 @@ use Rattle.meaning.specs.Methods.{round, absolute}
 use Rattle.reading.specs.declared.Single.{Single}
 use Rattle.reading.specs.Left.{singleBy}
 use Rattle.trim.specs.declared.Block.{Block}
-use Rattle.trim.specs.declared.Totals.{Totals}
 use Rattle.trim.specs.declared.Plan.{Plan}
 use Rattle.trim.specs.Walk.{singleIf, addAt, tailSingle, planned, singlesLeft, singlesSummed, singlesTotal}
 use Rattle.trim.proofs.Few.{FewSingle, few-single, few-single-by}

@@ -1,8 +1,7 @@
 -- The plans of methods 0 to 5 for singles trim by them.
-use mathlib.Core.Path.{_≡_, refl, sym, ap, _∙_}
+use mathlib.Core.Path.{_≡_, refl, ap, _∙_}
 use mathlib.Core.Logic.{_≢_}
-use Prim.Native.Nat.{ℕ, suc, _+_, _-_, _^_, _≤_, _<_}
-use native.Mathlib.Nat.{le-refl}
+use Prim.Native.Nat.{ℕ, _-_, _≤_, _<_}
 use native.Mathlib.Omega.{arith}
 use lib.Pow.{pow-pos}
 use Rattle.meaning.specs.Methods.{round, absolute}
@@ -11,7 +10,7 @@ use Rattle.reading.specs.Left.{singleBy}
 use Rattle.asking.specs.Asked.{methodBy}
 use Rattle.trim.specs.declared.Plan.{Plan}
 use Rattle.trim.specs.Plans.{evenBy, oddBy, Plans}
-use Rattle.trim.specs.Walk.{Sound, planned, tailSingle}
+use Rattle.trim.specs.Walk.{planned}
 use Rattle.trim.proofs.Planned.{is-tail, is-round, is-absolute}
 use Rattle.trim.proofs.Tails.{even-by, odd-by, single-tail-by, single-none, single-placeless, round-placeless, absolute-placeless}
 

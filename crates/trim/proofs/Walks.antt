@@ -1,7 +1,7 @@
 -- A loop that walks a slice from the front, stores a new element at each place and adds to four sums: "what is done, and then the rest mapped, is the whole mapped" and
 -- "the sum so far, and the sum of the rest, is the whole sum"; where the loop begins, after a turn, and at the end. One law for every method and both widths.
 use mathlib.Core.Path.{_≡_, refl, sym, ap, _∙_}
-use mathlib.Core.List.{List, [], _∷_, _++_, append-assoc, append-nil}
+use mathlib.Core.List.{List, _∷_, _++_, append-assoc, append-nil}
 use Prim.Native.Nat.{ℕ, zero, suc, _+_, _<_, _≤_, zero-le}
 use native.Mathlib.Nat.{add-zero, zero-add, add-assoc}
 use native.Mathlib.Numerals.{add-one}

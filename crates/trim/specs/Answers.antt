@@ -1,5 +1,4 @@
 -- Document 01's number and values for each case of a trim's answer.
-use Prim.Native.Nat.{ℕ}
 use Rattle.meaning.specs.Methods.{Counts}
 use Rattle.meaning.specs.Questions.{Outcome, refused, accepted}
 use Rattle.trim.specs.declared.Answer.{Answer}

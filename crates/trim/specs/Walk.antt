@@ -8,7 +8,7 @@ use Rattle.meaning.specs.Readings.{magnitude}
 use Rattle.meaning.specs.Methods.{round, absolute}
 use Rattle.reading.specs.declared.Single.{Single}
 use Rattle.reading.specs.declared.Double.{Double}
-use Rattle.reading.specs.Left.{singleFrom, doubleFrom, singleBy, doubleBy, wanted, tailAdded}
+use Rattle.reading.specs.Left.{singleFrom, doubleFrom, singleBy, wanted, tailAdded}
 use Rattle.trim.specs.declared.Block.{Block}
 use Rattle.trim.specs.declared.Totals.{Totals}
 use Rattle.trim.specs.declared.Plan.{Plan}

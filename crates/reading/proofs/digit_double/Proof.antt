@@ -1,5 +1,5 @@
 -- Where the reading is finite the new magnitude is the definition's, by `digits-word`; the rest is `double-by`.
-use mathlib.Core.Path.{_≡_, sym, _∙_, subst}
+use mathlib.Core.Path.{sym, _∙_, subst}
 use Prim.Native.Nat.{ℕ, _%_, _^_, _<_}
 use native.Mathlib.Omega.{arith}
 use lib.Dec.{eqb, lit≤}

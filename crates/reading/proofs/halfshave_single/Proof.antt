@@ -1,8 +1,6 @@
 -- The cut and half a unit, by `halfshaved-word`; the sum has room below the sign.
-use mathlib.Core.Path.{_≡_, _∙_, sym, ap}
-use Prim.Native.Nat.{ℕ, _+_, _-_, _^_, _<_}
+use Prim.Native.Nat.{_-_}
 use native.Mathlib.Omega.{arith}
-use native.Mathlib.Nat.{le-refl}
 use lib.Pow.{pow-pos, pow-lt}
 use Rattle.meaning.specs.Readings.{infinity}
 use Rattle.reading.proofs.Words.{cut-room, halfshaved-none, halfshaved-word}

@@ -1,8 +1,7 @@
 -- By its kind the plan is one of the four loops.
 use borrow.Author.Needs.{needs}
-use mathlib.Core.Path.{_≡_, ap, sym, _∙_}
+use mathlib.Core.Path.{ap, sym, _∙_}
 use Prim.Native.Nat.{ℕ}
-use native.Mathlib.Omega.{arith}
 use Rattle.reading.specs.declared.Single.{Single}
 use Rattle.trim.specs.Walk.{singlesLeft, singlesSummed}
 use Rattle.trim.proofs.Planned.{is-tail, is-round, is-absolute}

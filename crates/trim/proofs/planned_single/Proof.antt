@@ -1,7 +1,6 @@
 -- By the plan's kind.
-use mathlib.Core.Path.{_≡_, sym, ap, _∙_, subst}
+use mathlib.Core.Path.{sym, ap, _∙_, subst}
 use Prim.Native.Nat.{ℕ, _-_, _^_, _<_}
-use native.Mathlib.Omega.{arith}
 use Rattle.meaning.specs.Readings.{magnitude}
 use Rattle.reading.specs.declared.Single.{Single}
 use Rattle.reading.specs.Left.{singleFrom, wanted, tailAdded}

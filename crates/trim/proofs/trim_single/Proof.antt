@@ -1,5 +1,5 @@
 -- Refused or accepted, by the laws of `Loader`.
-use mathlib.Core.Path.{_≡_, ap, _∙_}
+use mathlib.Core.Path.{ap, _∙_}
 use Prim.Native.Nat.{ℕ, _+_}
 use native.Mathlib.Omega.{arith}
 use lib.IntN.{ℤ}
@@ -25,7 +25,7 @@ returns c =
     let a = c .before .before .before .ask-single in
     ap (λ (k : ℕ). 4294967296 + k) (c .wide .ensures)
     ∙ refused-loader (s .args .method) (s .args .setting) (s .args .mark) (s .args .place) (s .args .x) (a .result .refusal)
-        (a .ensures .0 ∙ ap (λ (z : ℤ). refusalOf 23 8 (s .args .method) z) (toZ-ofZ (s .fits .setting))) (c .before .if1 .taken)
+    (a .ensures .0 ∙ ap (λ (z : ℤ). refusalOf 23 8 (s .args .method) z) (toZ-ofZ (s .fits .setting))) (c .before .if1 .taken)
 
 method-single-requires : tie.Need-method-single-requires
 method-single-requires c κs =
@@ -46,8 +46,8 @@ returns-2 c =
     let none = c .before .before .if1 .left in
     c .wide2 .ensures
     ∙ accepted-loader (s .args .method) (s .args .setting) (s .args .mark) (s .args .place) (s .args .x) (a .result .refusal)
-        (a .ensures .0 ∙ ap (λ (z : ℤ). refusalOf 23 8 (s .args .method) z) (toZ-ofZ (s .fits .setting))) none (a .result .number)
-        (a .ensures .1 none ∙ ap (λ (z : ℤ). numberOf 23 8 (s .args .method) z) (toZ-ofZ (s .fits .setting))) (c .before .method-single .result) (c .before .method-single .ensures)
+    (a .ensures .0 ∙ ap (λ (z : ℤ). refusalOf 23 8 (s .args .method) z) (toZ-ofZ (s .fits .setting))) none (a .result .number)
+    (a .ensures .1 none ∙ ap (λ (z : ℤ). numberOf 23 8 (s .args .method) z) (toZ-ofZ (s .fits .setting))) (c .before .method-single .result) (c .before .method-single .ensures)
 
 pub trim-single-spec : {M : Type 1} → statement M
 trim-single-spec =

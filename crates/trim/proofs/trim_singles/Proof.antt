@@ -1,6 +1,6 @@
 -- Refused or accepted, by the laws of `Calls`.
 use borrow.Author.Needs.{needs}
-use mathlib.Core.Path.{_≡_, ap, _∙_}
+use mathlib.Core.Path.{ap, _∙_}
 use Prim.Native.Nat.{_-_}
 use lib.IntN.{ℤ}
 use mir.Facts.{toZ-ofZ}
