@@ -1,0 +1,73 @@
+// The interface for C and every language that calls C. An array is a pointer and a length; a call answers 0, or the refusal's number, and then writes nothing.
+
+ghost use mathlib.Core.Path.{_≡_};
+ghost use Rattle.meaning.specs.Calls.{trimSingles, trimDoubles, loader};
+ghost use Rattle.trim.specs.Answers.{answerOf};
+ghost use Rattle.capi.specs.ForC.{numberForC, countsForC};
+
+// An answer in C's form.
+fn hand_over(answer: trim::Answer, counts: &mut [u64; 4]) -> u32
+    ensures number { λ r. ⌜ r ≡ numberForC (answerOf answer) ⌝ }
+    ensures counted { λ _. ⌜ now (counts .exit) ≡ countsForC (answerOf answer) (now (counts .entry)) ⌝ }
+{
+    match answer {
+        trim::Answer::Counts {
+            changed,
+            spared,
+            clipped,
+            missing,
+        } => {
+            *counts = [changed, spared, clipped, missing];
+            0
+        }
+        trim::Answer::Refused(n) => n,
+    }
+}
+
+// Trims an array of singles in place. `counts` gets the places changed, spared, clipped and missing.
+#[no_mangle]
+pub extern "C" fn megharutti_trim_singles(
+    readings: &mut [u32],
+    method: u32,
+    setting: i32,
+    mark: u32,
+    counts: &mut [u64; 4],
+) -> u32
+    ensures answer { λ r. ⌜ r ≡ numberForC (trimSingles method setting mark (now (readings .entry)) .answer) ⌝ }
+    ensures content { λ _. ⌜ now (readings .exit) ≡ trimSingles method setting mark (now (readings .entry)) .readings ⌝ }
+    ensures counted { λ _. ⌜ now (counts .exit) ≡ countsForC (trimSingles method setting mark (now (readings .entry)) .answer) (now (counts .entry)) ⌝ }
+{
+    let answer = trim::trim_singles(readings, method, setting, mark);
+    hand_over(answer, counts)
+}
+
+// Trims an array of doubles in place. `counts` gets the places changed, spared, clipped and missing.
+#[no_mangle]
+pub extern "C" fn megharutti_trim_doubles(
+    readings: &mut [u64],
+    method: u32,
+    setting: i32,
+    mark: u64,
+    counts: &mut [u64; 4],
+) -> u32
+    ensures answer { λ r. ⌜ r ≡ numberForC (trimDoubles method setting mark (now (readings .entry)) .answer) ⌝ }
+    ensures content { λ _. ⌜ now (readings .exit) ≡ trimDoubles method setting mark (now (readings .entry)) .readings ⌝ }
+    ensures counted { λ _. ⌜ now (counts .exit) ≡ countsForC (trimDoubles method setting mark (now (readings .entry)) .answer) (now (counts .entry)) ⌝ }
+{
+    let answer = trim::trim_doubles(readings, method, setting, mark);
+    hand_over(answer, counts)
+}
+
+// Trims one single as the array call would at a place: the pattern that is left, or 2^32 plus the refusal's number.
+#[no_mangle]
+pub extern "C" fn megharutti_trim_single(
+    reading: u32,
+    method: u32,
+    setting: i32,
+    mark: u32,
+    place: u64,
+) -> u64
+    ensures { λ r. ⌜ r ≡ loader method setting mark place reading ⌝ }
+{
+    trim::trim_single(reading, method, setting, mark, place)
+}
