@@ -1,0 +1,417 @@
+//! Compares the trims of the C interface with a model of document 01 in exact whole numbers, place by place and count by count.
+//!
+//! The model knows nothing of the library. Where the machine's own floats can give the same answer exactly, they are asked too,
+//! so that a slip in the model doesn't pass for a slip in the library. Every run makes the same comparisons.
+use std::cmp::Ordering;
+use std::process::exit;
+
+extern "C" {
+    fn megharutti_trim_single(reading: u32, method: u32, setting: i32, mark: u32, place: u64) -> u64;
+    fn megharutti_trim_singles(readings: *mut u32, n: usize, method: u32, setting: i32, mark: u32, counts: *mut u64) -> u32;
+    fn megharutti_trim_doubles(readings: *mut u64, n: usize, method: u32, setting: i32, mark: u64, counts: *mut u64) -> u32;
+}
+
+/// A natural number of any size: least limb first, and no zero limb at the top, so that equal numbers have equal limbs.
+#[derive(PartialEq)]
+struct Nat(Vec<u32>);
+
+impl Nat {
+    fn new(limbs: impl Iterator<Item = u32>) -> Nat {
+        let mut limbs: Vec<u32> = limbs.collect();
+        while limbs.last() == Some(&0) { limbs.pop(); }
+        Nat(limbs)
+    }
+    fn of(v: u64) -> Nat { Nat::new([v as u32, (v >> 32) as u32].into_iter()) }
+    fn limb(&self, i: usize) -> u64 { *self.0.get(i).unwrap_or(&0) as u64 }
+    fn low(&self) -> u64 { self.limb(0) | self.limb(1) << 32 }
+    fn bits(&self) -> u32 { self.0.last().map_or(0, |top| 32 * self.0.len() as u32 - top.leading_zeros()) }
+    fn shl(&self, n: u32) -> Nat {
+        let under = |i: usize| if i == 0 { 0 } else { self.limb(i - 1) };
+        let limbs = (0..=self.0.len()).map(|i| ((self.limb(i) << 32 | under(i)) << (n % 32) >> 32) as u32);
+        Nat::new((0..n / 32).map(|_| 0).chain(limbs))
+    }
+    fn shr(&self, n: u32) -> Nat {
+        Nat::new((n as usize / 32..self.0.len()).map(|i| ((self.limb(i + 1) << 32 | self.limb(i)) >> (n % 32)) as u32))
+    }
+    fn times(&self, small: u64) -> Nat { self.times_add(small, &Nat(vec![])) }
+    fn add(&self, other: &Nat) -> Nat { self.times_add(1, other) }
+    fn times_add(&self, small: u64, other: &Nat) -> Nat {
+        let (mut sum, limbs) = (0, 0..=self.0.len().max(other.0.len()));
+        Nat::new(limbs.map(|i| { sum = self.limb(i) * small + other.limb(i) + (sum >> 32); sum as u32 }))
+    }
+    /// The quotient, rounded up.
+    fn over(&self, small: u64) -> Nat {
+        let (mut out, mut rest) = (self.add(&Nat::of(small - 1)), 0);
+        for limb in out.0.iter_mut().rev() {
+            rest = rest << 32 | *limb as u64;
+            *limb = (rest / small) as u32;
+            rest %= small;
+        }
+        Nat::new(out.0.into_iter())
+    }
+    fn cmp(&self, other: &Nat) -> Ordering {
+        self.0.len().cmp(&other.0.len()).then_with(|| self.0.iter().rev().cmp(other.0.iter().rev()))
+    }
+}
+
+/// The nearer of two neighbours on a grid, by how a reading lies to their middle; a tie goes to the even one.
+fn goes_up(to_middle: Ordering, below_is_odd: bool) -> bool { to_middle.is_gt() || to_middle.is_eq() && below_is_odd }
+
+/// A float form with f fraction bits and e exponent bits. A size is a Nat that counts least spacings; the least spacing is 2^-deep.
+struct Form {
+    f: u32, e: u32, deep: i32, sign: u64, infinity: u64,
+    all: u64, // every bit of a pattern
+    tens: Vec<Nat>, // the least size that isn't below 10^x, from x = LOW on; sizes are whole, so the comparison is exact
+    lengths: Vec<i32>, // the bit length of 10^0, 10^1 ..
+}
+const LOW: i32 = -330; // below the decade of the least double
+
+impl Form {
+    fn new(f: u32, e: u32) -> Form {
+        let deep = (1 << (e - 1)) - 2 + f as i32;
+        let mut tens = vec![Nat::of(1).shl(deep as u32)];
+        (0..-LOW).for_each(|i| tens.push(tens[i as usize].over(10)));
+        tens.reverse();
+        (0..310).for_each(|_| tens.push(tens[tens.len() - 1].times(10)));
+        let mut ten = Nat::of(1);
+        let lengths = (0..360).map(|_| (ten.bits() as i32, ten = ten.times(10)).0).collect();
+        Form { f, e, deep, sign: 1 << (f + e), infinity: ((1 << e) - 1) << f, all: u64::MAX >> (63 - f - e), tens, lengths }
+    }
+    /// The settings that the method takes.
+    fn range(&self, method: u32) -> (i32, i32) {
+        let absolute = (-self.deep, (1 << (self.e - 1)) - 1);
+        if method < 5 { (0, self.f as i32) } else if method == 5 { absolute } else { (1, if self.f == 23 { 7 } else { 15 }) }
+    }
+    fn refusal(&self, method: u32, setting: i32) -> u32 {
+        let (least, most) = self.range(method);
+        if method > 6 { 1 } else if setting < least || setting > most { 2 } else { 0 }
+    }
+    /// The exponent of the spacing, counted from the least spacing.
+    fn spacing(&self, m: u64) -> u32 { ((m >> self.f) as u32).max(1) - 1 }
+    fn size(&self, m: u64) -> Nat {
+        let fraction = m % (1 << self.f);
+        Nat::of(if m >> self.f == 0 { fraction } else { (1 << self.f) + fraction }).shl(self.spacing(m))
+    }
+    fn magnitude(&self, size: &Nat) -> u64 {
+        let e = size.bits().saturating_sub(self.f);
+        let m = ((e as u64) << self.f) + size.shr(e.max(1) - 1).low() % (1 << self.f);
+        assert!(m < self.infinity && self.size(m) == *size, "the model made a size that isn't a reading's");
+        m
+    }
+    /// What the method makes of a reading that isn't the mark, before sparing, and whether it was clipped.
+    fn trim(&self, method: u32, setting: i32, reading: u64, odd: bool) -> (u64, bool) {
+        let m = reading % self.sign;
+        let (new, clipped) = match method {
+            _ if m >= self.infinity => (m, false),
+            0..=4 => self.keep(method, self.f - setting as u32, m, odd),
+            5 => self.absolute((setting + self.deep) as u32, m),
+            _ => (self.digits(setting, m), false),
+        };
+        (reading - m + new, clipped)
+    }
+    fn keep(&self, method: u32, t: u32, m: u64, odd: bool) -> (u64, bool) {
+        let unit = 1u64 << t;
+        let s = m / unit * unit;
+        match method {
+            0 => (s, false),
+            1 => (if m == 0 { m } else { s + (unit - 1) }, false),
+            2 => self.keep(odd as u32, t, m, odd),
+            3 => (if m == 0 || t == 0 { m } else { s + unit / 2 }, false),
+            _ if !goes_up((m - s).cmp(&(s + unit - m)), s & unit != 0) => (s, false),
+            _ => if s + unit < self.infinity { (s + unit, false) } else { (s, true) },
+        }
+    }
+    fn absolute(&self, unit: u32, m: u64) -> (u64, bool) {
+        let size = self.size(m);
+        let j = size.shr(unit);
+        let (below, above) = (j.shl(unit), j.add(&Nat::of(1)).shl(unit));
+        let up = goes_up(size.times(2).cmp(&below.add(&above)), j.low() % 2 == 1);
+        let largest = self.size(self.infinity - 1);
+        let clipped = up && above.cmp(&largest).is_gt();
+        (self.magnitude(&if clipped { largest.shr(unit).shl(unit) } else if up { above } else { below }), clipped)
+    }
+    /// The d with 10^(d-1) <= size < 10^d.
+    fn decade(&self, m: u64) -> i32 {
+        let size = self.size(m);
+        self.tens.partition_point(|ten| ten.cmp(&size).is_le()) as i32 + LOW
+    }
+    fn digits(&self, n: i32, m: u64) -> u64 {
+        if m == 0 { return m; }
+        let x = self.decade(m) - n;
+        // Below 10^0 no power of ten is a power of two, so 2^-length is the largest that isn't above 10^x.
+        let length = self.lengths[x.unsigned_abs() as usize];
+        let q = if x >= 0 { length - 1 } else { -length } + self.deep;
+        if q < self.spacing(m) as i32 + 1 { return m; }
+        let j = self.size(m).shr(q as u32);
+        self.magnitude(&j.times_add(2, &Nat::of(1)).shl(q as u32 - 1))
+    }
+    /// What the machine's floats say, where nothing but the wanted rounding can round.
+    fn machine(&self, method: u32, setting: i32, reading: u64) -> Option<u64> {
+        let power = |p: i32| f64::from_bits(if p < -1022 { 1 << (p + 1074) } else { ((p + 1023) as u64) << 52 });
+        let (double, most) = (f64::from_bits(reading), f32::MAX as f64);
+        match (method, self.f) {
+            _ if reading % self.sign >= self.infinity => None,
+            (5, 23) => {
+                let x = (f32::from_bits(reading as u32) as f64 / power(setting)).round_ties_even() * power(setting);
+                let largest = (most / power(setting)).floor() * power(setting);
+                Some((x.abs().min(largest).copysign(x) as f32).to_bits() as u64)
+            }
+            (5, _) => {
+                let quotient = double / power(setting);
+                let x = quotient.round_ties_even() * power(setting);
+                (x.is_finite() && (quotient.is_normal() || double == 0.0)).then_some(x.to_bits())
+            }
+            // A cast to single keeps 23 bits of a double that has a single's exponent, ties to even.
+            (4, 52) if setting == 23 && (f32::MIN_POSITIVE as f64..=most).contains(&double.abs()) => Some((double as f32 as f64).to_bits()),
+            _ => None,
+        }
+    }
+}
+
+struct Tally { compared: u64, lines: u32, seed: u64 }
+impl Tally {
+    fn same(&mut self, got: u64, want: u64, told: impl FnOnce() -> String) {
+        self.compared += 1;
+        if got == want { return; }
+        println!("{} got {got:08X} expected {want:08X}", told());
+        self.lines += 1;
+        if self.lines == 10 { exit(1); }
+    }
+    fn random(&mut self) -> u64 {
+        self.seed ^= self.seed << 13; self.seed ^= self.seed >> 7; self.seed ^= self.seed << 17;
+        self.seed.wrapping_mul(0x2545F4914F6CDD1D).rotate_left(29)
+    }
+    fn below(&mut self, n: u64) -> u64 { self.random() % n }
+    fn pick(&mut self, from: &[u64]) -> u64 { from[self.below(from.len() as u64) as usize] }
+}
+
+#[derive(Clone, Copy)]
+struct Job { method: u32, setting: i32, mark: u64 }
+impl Job {
+    fn at(&self, what: &str, place: u64, before: u64) -> String {
+        format!("{what}: method {} setting {} mark {:08X} place {place} before {before:08X}", self.method, self.setting, self.mark)
+    }
+}
+
+/// One array call, on a part of a longer array, against the model. Answers the array as the call left it.
+fn array(t: &mut Tally, form: &Form, job: Job, before: &[u64], plain: &[(u64, bool)]) -> Vec<u64> {
+    const UNTOLD: u64 = 0x5A5A_1234_5A5A_4321; // what the counts hold before the call, so that adding to them or leaving them shows
+    let Job { method, setting, mark } = job;
+    let (n, front) = (before.len(), 1 + t.below(8) as usize); // any alignment
+    let guard = form.infinity / 2 + 0x2A5A5B; // trimming would change it
+    let mut lent = vec![guard; n + front + 5];
+    lent[front..front + n].copy_from_slice(before);
+    let mut counts = [UNTOLD; 6];
+    let told = unsafe { counts.as_mut_ptr().add(1) };
+    let mut singles: Vec<u32> = lent.iter().map(|&x| x as u32).collect();
+    let answer = match form.f {
+        23 => unsafe { megharutti_trim_singles(singles.as_mut_ptr().add(front), n, method, setting, mark as u32, told) },
+        _ => unsafe { megharutti_trim_doubles(lent.as_mut_ptr().add(front), n, method, setting, mark, told) },
+    };
+    if form.f == 23 { lent = singles.iter().map(|&x| x as u64).collect(); }
+    let refusal = form.refusal(method, setting);
+    t.same(answer as u64, refusal as u64, || job.at("answer", n as u64, 0));
+    let mut want = [UNTOLD, 0, 0, 0, 0, UNTOLD];
+    for i in 0..n {
+        let old = before[i];
+        let (new, clipped) = if refusal != 0 { (old, false) } else { plain[i] };
+        let (missing, spared) = (old == mark, old != mark && new == mark && refusal == 0);
+        let new = if missing || spared { old } else { new };
+        let kinds = [new != old, spared, clipped && !missing && !spared, missing];
+        (0..4).for_each(|k| want[k + 1] += kinds[k] as u64);
+        t.same(lent[front + i], new, || job.at("array", i as u64, old));
+    }
+    let outside = (0..front).chain(front + n..lent.len());
+    outside.for_each(|i| t.same(lent[i], guard, || job.at("outside the array", i as u64, guard)));
+    let want = if refusal != 0 { [UNTOLD; 6] } else { want };
+    (0..6).for_each(|i| t.same(counts[i], want[i], || job.at("counts 1 to 4, 0 and 5 outside", i as u64, UNTOLD)));
+    lent[front..front + n].to_vec()
+}
+
+/// The model's results before sparing; `odd` when the first reading stands at an odd place.
+fn plain(form: &Form, job: Job, readings: &[u64], odd: bool) -> Vec<(u64, bool)> {
+    let refused = form.refusal(job.method, job.setting) != 0;
+    let trim = |i, x| if refused { (x, false) } else { form.trim(job.method, job.setting, x, (i % 2 == 1) != odd) };
+    readings.iter().enumerate().map(|(i, &x)| trim(i, x)).collect()
+}
+
+/// The loader's call on each reading at places of both parities, against the model and against what the array call left.
+fn loader(t: &mut Tally, form: &Form, job: Job, before: &[u64], after: &[u64], models: [&[(u64, bool)]; 2]) {
+    let refusal = form.refusal(job.method, job.setting);
+    for (i, &old) in before.iter().enumerate() {
+        for place in [0, 1, 1 << 63, u64::MAX] {
+            let got = unsafe { megharutti_trim_single(old as u32, job.method, job.setting, job.mark as u32, place) };
+            let flip = i as u64 % 2 != place % 2;
+            let new = models[flip as usize][i].0;
+            let new = if old == job.mark || new == job.mark { old } else { new };
+            let want = if refusal != 0 { (1 << 32) + refusal as u64 } else { new };
+            t.same(got, want, || job.at("loader", place, old));
+            if refusal == 0 && !flip { t.same(got, after[i], || job.at("loader beside array", place, old)); }
+        }
+    }
+}
+
+/// Ends, subnormals, infinities, NaNs and a few everyday readings, with both signs.
+fn ends(form: &Form) -> Vec<u64> {
+    let (one, top) = (1u64 << form.f, form.infinity);
+    let mut out = vec![0, 1, 2, 3, one / 2, one - 2, one - 1, one, one + 1, 2 * one, top - one, top - 2, top - 1];
+    out.extend([top, top + 1, top + one / 2, top + one / 2 + 1, top + one - 1, top / 2 - one / 2, top / 2]);
+    out.extend(match form.f {
+        23 => [0x40490FDB, 0x7CF00000, 0x7CF00001, 0x3FC00000, 0x3DCCCCCD],
+        _ => [std::f64::consts::PI, 9969209968386869046778552952102584320.0, 0.1, 1.5, 2.5].map(f64::to_bits),
+    });
+    out.iter().flat_map(|&m| [m, m + form.sign]).collect()
+}
+/// The readings nearest to the powers of ten, with their neighbours on both sides.
+fn tens(form: &Form) -> Vec<u64> {
+    let single = |x: i32| format!("1e{x}").parse::<f32>().unwrap().to_bits() as u64;
+    let double = |x: i32| format!("1e{x}").parse::<f64>().unwrap().to_bits();
+    let near: Vec<u64> = if form.f == 23 { (-45..39).map(single).collect() } else { (-324..309).map(double).collect() };
+    near.iter().flat_map(|&m| [m.saturating_sub(1), m, m + 1]).collect()
+}
+/// The magnitude with exponent field e and a fraction whose last bits lie at, or next to, what decides a rounding at bit `at`.
+fn edge(t: &mut Tally, form: &Form, e: u64, at: u32) -> u64 {
+    let (unit, random) = (1u64 << at, t.random());
+    let fraction = t.pick(&[random, random, random, 0, u64::MAX]) / unit * unit;
+    let tail = t.pick(&[0, 1, unit / 2 + unit - 1, unit / 2, unit / 2, unit / 2 + 1, unit - 1, random]) % unit;
+    (e << form.f) + (fraction + tail) % (1 << form.f)
+}
+/// The readings for one job: those where its results change, then powers of two with neighbours, and any patterns.
+fn readings(t: &mut Tally, form: &Form, method: u32, setting: i32, tens: &[u64]) -> Vec<u64> {
+    let mut out = vec![];
+    let top = (1u64 << form.e) - 2;
+    for round in 0..1200 {
+        let (any, bit) = (t.below(top + 1), t.below(form.f as u64 + 1) as i64);
+        let e = t.pick(&[any, any, any, 0, 1, top]);
+        // For a step, an exponent at which it is from 1 spacing to more than twice the reading, or any.
+        let unit = setting.saturating_add(form.deep).clamp(0, 3000) as i64;
+        let near = (unit + 1 - round % (form.f as i64 + 4)).clamp(0, top as i64) as u64;
+        let e = if method == 5 { t.pick(&[near, near, near, near, e]) } else { e };
+        let at = match method {
+            0..=4 => (form.f as i64 - setting as i64).clamp(0, form.f as i64),
+            5 => (unit - e.max(1) as i64 + 1).clamp(0, form.f as i64),
+            _ => bit,
+        };
+        out.push(edge(t, form, e, at as u32));
+    }
+    let (from, stride) = if method == 5 { (t.below(23), 23) } else { (0, 1) };
+    out.extend((from..top + 2).step_by(stride).flat_map(|e| [-1, 0, 1].map(|by| (e << form.f).saturating_add_signed(by))));
+    if method == 6 { out.extend(tens) } else { out.extend((0..50).map(|_| t.pick(tens))) }
+    out.iter_mut().for_each(|m| *m += form.sign * t.below(2));
+    out.extend((0..500).map(|_| t.random() & form.all));
+    out.extend(ends(form));
+    out
+}
+/// Marks of each kind: NaNs, zeros, infinity, ends, a reading of the array, and patterns that trimming or clipping would make.
+fn marks(t: &mut Tally, form: &Form, readings: &[u64], plain: &[(u64, bool)]) -> Vec<u64> {
+    let top = form.infinity;
+    let mut out = vec![top + (1 << (form.f - 1)), form.all, 0, form.sign, form.sign + top, t.pick(readings)];
+    let made: Vec<u64> = (0..readings.len()).filter(|&i| plain[i].0 != readings[i]).map(|i| plain[i].0).collect();
+    let clipped = plain.iter().filter(|x| x.1).map(|x| x.0);
+    let lone = t.pick(&[1, top - 1, 1 << form.f, top]);
+    out.extend(clipped.clone().min().into_iter().chain(clipped.max()).chain([lone]));
+    if !made.is_empty() { out.extend([t.pick(&made), t.pick(&made)]); }
+    out
+}
+
+/// The marked cases that concern trims, as document 01 prints them: name, method, the settings in turn, before, after.
+const CASES: [(&str, u32, &[i32], u64, u64); 16] = [
+    ("P1", 0, &[7], 0x40490FDB, 0x40490000), ("P2", 1, &[7], 0x40490FDB, 0x4049FFFF), ("P3", 3, &[7], 0x40490FDB, 0x40498000),
+    ("P4", 4, &[0], 0x40490FDB, 0x40800000), ("P5", 4, &[0], 0x3FC00000, 0x40000000), ("P5", 4, &[0], 0x40400000, 0x40000000),
+    ("P6", 4, &[7], 0x7F7FFFFF, 0x7F7F0000), ("P7", 5, &[0], 0x3F000000, 0x00000000), ("P7", 5, &[0], 0xBF000000, 0x80000000),
+    ("P7", 5, &[0], 0x3FC00000, 0x40000000), ("P8", 6, &[1], 0x40490FDB, 0x40600000), ("P8", 6, &[3], 0x40490FDB, 0x40494000),
+    ("P9", 6, &[1], 0x3DCCCCCD, 0x3DC00000), ("P9", 6, &[1, 1], 0x3DCCCCCD, 0x3DC80000),
+    ("P10", 4, &[8, 7], 0x3F817F80, 0x3F820000), ("P10", 4, &[7], 0x3F817F80, 0x3F810000),
+];
+
+fn marked_cases(t: &mut Tally, form: &Form) {
+    let mark = 0x7FC00000;
+    for (name, method, settings, start, after) in CASES {
+        let (&setting, earlier) = settings.split_last().unwrap();
+        let before = earlier.iter().fold(start, |x, &s| unsafe { megharutti_trim_single(x as u32, method, s, mark as u32, 0) });
+        let (job, printed) = (Job { method, setting, mark }, [(after, name == "P6")]);
+        t.same(form.trim(method, setting, before, false).0, after, || job.at("model", 0, before));
+        let left = array(t, form, job, &[before], &printed);
+        loader(t, form, job, &[before], &left, [&printed, &printed]);
+    }
+    // The document's list for the program, each series as one array, with the counts that it prints.
+    let series = [([0x40490FDB, 0x7CF00001], [0x40490000, 0x7CF00001], [1, 1, 0, 0]),
+        ([0x7CF00000, 0x3F800000], [0x7CF00000, 0x3F800000], [0, 0, 0, 1])];
+    for (before, after, counts) in series {
+        let (mut lent, mut told) = (before, [9; 4]);
+        let answer = unsafe { megharutti_trim_singles(lent.as_mut_ptr(), 2, 4, 7, 0x7CF00000, told.as_mut_ptr()) };
+        let job = Job { method: 4, setting: 7, mark: 0x7CF00000 };
+        t.same(answer as u64, 0, || job.at("answer", 0, before[0] as u64));
+        (0..2).for_each(|i| t.same(lent[i] as u64, after[i], || job.at("the document's list", i as u64, before[i] as u64)));
+        (0..4).for_each(|i| t.same(told[i], counts[i], || job.at("the document's counts", i as u64, 9)));
+    }
+}
+
+fn width(t: &mut Tally, form: &Form) {
+    let tens = tens(form);
+    // Printed with all its digits a reading shows its decade, so the model's decades are checked without the model's table.
+    for m in tens.iter().copied().chain(ends(form)).filter(|&m| m > 0 && m < form.infinity) {
+        let x = if form.f == 23 { f32::from_bits(m as u32) as f64 } else { f64::from_bits(m) };
+        let printed: i32 = format!("{x:.800e}").split_once('e').unwrap().1.parse().unwrap();
+        t.same(form.decade(m) as u64, (printed + 1) as u64, || format!("model's decade: before {m:08X}"));
+    }
+    // Every method with every setting, one setting more on each side and the ends of the number; then unknown methods.
+    for method in (0..10).chain([u32::MAX]) {
+        let (least, most) = if method > 6 { (-1, 8) } else { form.range(method) };
+        for setting in (least - 1..=most + 1).chain([i32::MIN, i32::MAX]) {
+            let job = Job { method, setting, mark: 0 };
+            let mut before = readings(t, form, method, setting, &tens);
+            let refused = form.refusal(method, setting) != 0;
+            before.truncate(if refused { 300 } else { usize::MAX });
+            let models = [plain(form, job, &before, false), plain(form, job, &before, true)];
+            for (&old, &(new, _)) in before.iter().zip(&models[0]).filter(|_| !refused) {
+                let Some(x) = form.machine(method, setting, old) else { continue };
+                t.same(new, x, || job.at("model, expected by the machine's floats", 0, old));
+            }
+            for mark in marks(t, form, &before, &models[0]) {
+                let job = Job { mark, ..job };
+                let after = array(t, form, job, &before, &models[0]);
+                array(t, form, job, &before[1..], &models[1][1..]); // each reading at a place of the other parity
+                array(t, form, job, &[], &[]);
+                if form.f == 23 { loader(t, form, job, &before, &after, [&models[0], &models[1]]); }
+            }
+        }
+    }
+    // Lengths around a block's, with missing readings strewn in, and with nothing else.
+    let ends = ends(form);
+    for method in 0..7 {
+        for n in [0, 1, 2, 3, 5, 17, 1000, 65535, 65536, 65537, 131073] {
+            let (least, most) = if method == 5 { (-4, 4) } else { form.range(method) };
+            let mut before: Vec<u64> = (0..n).map(|_| (t.random() & form.all) >> t.below(3)).collect();
+            (0..n / 9).for_each(|_| before[t.below(n) as usize] = t.pick(&ends));
+            let job = Job { method, setting: least + t.below((most - least + 1) as u64) as i32, mark: t.pick(&ends) };
+            array(t, form, job, &before, &plain(form, job, &before, false));
+            array(t, form, Job { setting: -2000, ..job }, &before, &[]);
+            let missing = vec![job.mark; n as usize];
+            array(t, form, job, &missing, &plain(form, job, &missing, false));
+        }
+    }
+    // Lists of calls on one array with one mark, refused calls among them: each call gets the array as the last one left it.
+    for _ in 0..3000 {
+        let near = t.below((1 << form.e) - 1);
+        let mut now: Vec<u64> = (0..1 + t.below(60)).map(|_| (near << form.f) + (t.random() >> (63 - form.f))).collect();
+        now.iter_mut().for_each(|x| *x += form.sign * t.below(2));
+        let mark = form.trim(4, t.below(form.f as u64) as i32, now[0], false).0;
+        for _ in 0..t.below(6) {
+            let (method, bits) = (t.below(8) as u32, t.below(form.f as u64 + 2) as i32);
+            let exponent = near as i32 - (1 << (form.e - 1)) + 1;
+            let job = Job { method, setting: if method == 5 { exponent + 1 - bits } else { bits }, mark };
+            now = array(t, form, job, &now, &plain(form, job, &now, false));
+        }
+    }
+}
+
+fn main() {
+    let mut t = Tally { compared: 0, lines: 0, seed: 0x9E3779B97F4A7C15 };
+    let (single, double) = (Form::new(23, 8), Form::new(52, 11));
+    marked_cases(&mut t, &single);
+    width(&mut t, &single);
+    width(&mut t, &double);
+    if t.lines > 0 { exit(1); }
+    println!("trims: {} comparisons, no difference", t.compared);
+}
