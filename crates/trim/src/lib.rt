@@ -638,12 +638,12 @@ pub fn trim_doubles(readings: &mut [u64], method: u32, setting: i32, mark: u64) 
     if asked.refusal != 0 {
         return Answer::Refused(asked.refusal);
     }
-    let t = method_doubles(readings, method, asked.number, mark);
+    let all = method_doubles(readings, method, asked.number, mark);
     Answer::Counts {
-        changed: t.changed,
-        spared: t.marked - t.missing,
-        clipped: t.clipped,
-        missing: t.missing,
+        changed: all.changed,
+        spared: all.marked - all.missing,
+        clipped: all.clipped,
+        missing: all.missing,
     }
 }
 
