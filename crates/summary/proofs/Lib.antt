@@ -1,0 +1,3 @@
+pub mod Keys
+pub mod Made
+pub mod Patterns
