@@ -47,12 +47,12 @@ or-first : (a b : Bool) → a || b ≡ true → b ≡ false → a ≡ true
 or-first true b e f = refl
 or-first false b e f = absurd (true≢false (sym e ∙ f))
 
-record Asked (mark L : ℕ) (vs : List ℕ) : Type 0 where
-  some : 1 ≤ L
-  whole : length vs % L ≡ 0
-  packable : Packable 23 8 mark vs
+pub record Asked (mark L : ℕ) (vs : List ℕ) : Type 0 where
+  pub some : 1 ≤ L
+  pub whole : length vs % L ≡ 0
+  pub packable : Packable 23 8 mark vs
 
-asked : (mark L : ℕ) (vs : List ℕ) (c r e : ℕ) → packQuestions mark L vs c r e ≡ accepted tt → Asked mark L vs
+pub asked : (mark L : ℕ) (vs : List ℕ) (c r e : ℕ) → packQuestions mark L vs c r e ≡ accepted tt → Asked mark L vs
 unfolding packQuestions layerQuestions missing
 asked mark L vs c r e h =
     let q3 = ask-yes (leb 1 L && leb L 65536) 3 _ tt h in

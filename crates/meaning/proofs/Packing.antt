@@ -106,7 +106,7 @@ module _ (F X : ℕ) where
 
   -- ---- the summary spans the position p
 
-  abbrev Spans : Summary → ℕ → Type 0
+  abbrev pub Spans : Summary → ℕ → Type 0
   Spans Nothing p = ⊥
   Spans (Flat a) p = position F X a ≡ p
   Spans (Spread a z) p = (position F X a ≤ p) × (p ≤ position F X z)
@@ -211,11 +211,11 @@ module _ (F X : ℕ) where
 
   -- ---- the codes of a layer
 
-  code-missing : (b mark : ℕ) (l : Layer) (w : ℕ) → w ≡ mark → code F X b mark l w ≡ missingCode b
+  pub code-missing : (b mark : ℕ) (l : Layer) (w : ℕ) → w ≡ mark → code F X b mark l w ≡ missingCode b
   unfolding code missing
   code-missing b mark l w e = rw (eq-eqb w mark e) refl
 
-  code-present : (b mark : ℕ) (l : Layer) (w : ℕ) → w ≢ mark → code F X b mark l w ≡ nearest (position F X w - position F X (l .reference)) (2 ^ l .exponent)
+  pub code-present : (b mark : ℕ) (l : Layer) (w : ℕ) → w ≢ mark → code F X b mark l w ≡ nearest (position F X w - position F X (l .reference)) (2 ^ l .exponent)
   unfolding code missing
   code-present b mark l w e = rw (ne-eqb w mark e) refl
 

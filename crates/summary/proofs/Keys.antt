@@ -22,11 +22,11 @@ key-minus : (w : ℕ) → 2147483648 ≤ w → key w ≡ 4294967296 - w
 unfolding key
 key-minus w h = rw (le-ltb w 2147483648 h) refl
 
-pub unkey-plus : (k : ℕ) → 2147483648 ≤ k → unkey k ≡ k - 2147483648
+unkey-plus : (k : ℕ) → 2147483648 ≤ k → unkey k ≡ k - 2147483648
 unfolding unkey
 unkey-plus k h = rw (le-ltb k 2147483648 h) refl
 
-pub unkey-minus : (k : ℕ) → k < 2147483648 → unkey k ≡ 4294967296 - k
+unkey-minus : (k : ℕ) → k < 2147483648 → unkey k ≡ 4294967296 - k
 unfolding unkey
 unkey-minus k h = rw (lt-ltb k 2147483648 h) refl
 
@@ -56,6 +56,18 @@ unkey-key w b = go (decLt w 2147483648) (ℕ-discrete (w % 2147483648) 0)
     go (yes h) (no z) = rw (key-plus w h, unkey-plus (w + 2147483648) (omega arith), ne-eqb (w % 2147483648) 0 z) (omega arith)
     go (no h) (yes z) = rw (key-minus w (omega arith), unkey-plus (4294967296 - w) (omega arith), eq-eqb (w % 2147483648) 0 z) (omega arith)
     go (no h) (no z) = rw (key-minus w (omega arith), unkey-minus (4294967296 - w) (omega arith), ne-eqb (w % 2147483648) 0 z) (omega arith)
+
+-- the magnitude of a key's reading is finite
+pub unkey-finite : (k : ℕ) → Key k → (unkey k % 2147483648 < 2139095040) × (unkey k < 4294967296)
+unkey-finite k f = go (decLt k 2147483648)
+  where
+    go : Dec (k < 2147483648) → (unkey k % 2147483648 < 2139095040) × (unkey k < 4294967296)
+    go (yes h) = rw (unkey-minus k h) (omega (arith, f .above), omega (arith, f .above))
+    go (no h) = rw (unkey-plus k (omega arith)) (omega (arith, f .below), omega (arith, f .below))
+
+pub unkey-below : (k : ℕ) → Key k → magnitude 23 8 (unkey k) < infinity 23 8
+unfolding magnitude
+unkey-below k f = omega (arith, unkey-finite k f .0, infinity-is)
 
 -- where a key's reading stands
 

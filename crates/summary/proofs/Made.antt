@@ -1,5 +1,5 @@
 -- The summary of a run of readings is the one between its smallest and its largest key.
-use mathlib.Core.Path.{_≡_, refl, sym, _∙_}
+use mathlib.Core.Path.{_≡_, refl, sym, _∙_, subst}
 use mathlib.Core.Logic.{_≢_, _⊎_, inl, inr}
 use mathlib.Core.Bool.{cond}
 use mathlib.Core.List.{List, [], _∷_}
@@ -11,11 +11,11 @@ use borrow.Author.Tests.{lt-ltb, le-ltb, eq-eqb, ne-eqb}
 use lib.Dec.{eqb}
 use lib.ListN.{length, getD, drop, drop-of-length-le}
 use lib.Seq.{drop-cons}
-use Rattle.meaning.specs.Readings.{missing}
-use Rattle.meaning.specs.Layers.{Nothing, Flat, Spread, plusZero, smaller, larger, widened, summary}
+use Rattle.meaning.specs.Readings.{magnitude, infinity, position, missing}
+use Rattle.meaning.specs.Layers.{Summary, Nothing, Flat, Spread, plusZero, smaller, larger, widened, summary}
 use Rattle.summary.specs.Keys.{key, unkey, Key, lowest, highest, between}
 use Rattle.summary.specs.Summaries.{Packable}
-use Rattle.summary.proofs.Keys.{finite-key, unkey-key, smaller-key, larger-key, unkey-other}
+use Rattle.summary.proofs.Keys.{finite-key, unkey-key, unkey-below, key-order, smaller-key, larger-key, unkey-other}
 
 between-nothing : (low high : ℕ) → high < low → between low high ≡ Nothing
 unfolding between
@@ -144,6 +144,33 @@ made mark (w ∷ ws) p b = go (ℕ-discrete w mark) (made mark ws (λ i h. p (su
 pub both-keys : (low high a z : ℕ) → Ended low high → a ≡ low → z ≡ high → a ≤ z → Key a × Key z
 both-keys low high a z (inl x) p q h = absurd (omega (arith, x .0, x .1))
 both-keys low high a z (inr x) p q h = rw (p, q) (x .0)
+
+-- ---- a smallest and a largest value
+
+-- both are finite, and they differ
+pub record Spreads (a z : ℕ) : Type 0 where
+  pub low : magnitude 23 8 a < infinity 23 8
+  pub high : magnitude 23 8 z < infinity 23 8
+  pub differ : position 23 8 a < position 23 8 z
+
+spread-keys : (low high : ℕ) → Key low → Key high → low < high → Spreads (unkey low) (unkey high)
+spread-keys low high f g h = record { low = unkey-below low f; high = unkey-below high g; differ = key-order low high f g h }
+
+abbrev Apart : Summary → Type 0
+Apart Nothing = Unit {0}
+Apart (Flat a) = Unit {0}
+Apart (Spread a z) = Spreads a z
+
+between-apart : (low high : ℕ) → Ended low high → Apart (between low high)
+between-apart low high (inl x) = rw (between-nothing low high (omega (arith, x .0, x .1))) tt
+between-apart low high (inr x) = go (ℕ-discrete low high)
+  where
+    go : Dec (low ≡ high) → Apart (between low high)
+    go (yes e) = rw (e, between-flat high) tt
+    go (no e) = let l : low < high = omega (arith, x .1) in rw (between-spread low high l) (spread-keys low high (x .0 .0) (x .0 .1) l)
+
+pub spreads : (mark : ℕ) (ws : List ℕ) (a z : ℕ) → Made mark ws → summary 23 8 mark ws ≡ Spread a z → Spreads a z
+spreads mark ws a z m e = subst Apart (sym (m .is) ∙ e) (between-apart (lowest mark ws) (highest mark ws) (m .ended))
 
 -- ---- the loop: what the rest of the readings adds to the ends so far
 

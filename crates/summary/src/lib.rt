@@ -42,7 +42,7 @@ fn reading_of(k: u32) -> u32
 }
 
 // `yes` where a and b are equal, `no` where they differ.
-fn choose(a: u32, b: u32, yes: u32, no: u32) -> u32
+pub fn choose(a: u32, b: u32, yes: u32, no: u32) -> u32
     ensures { λ r. ⌜ r ≡ cond (eqb a b) yes no ⌝ }
 {
     if a == b { yes } else { no }
@@ -54,7 +54,7 @@ fn smaller(a: u32, b: u32) -> u32
     if a < b { a } else { b }
 }
 
-fn larger(a: u32, b: u32) -> u32
+pub fn larger(a: u32, b: u32) -> u32
     ensures { λ r. ⌜ r ≡ max a b ⌝ }
 {
     if a < b { b } else { a }

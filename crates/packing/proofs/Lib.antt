@@ -1,0 +1,4 @@
+pub mod Steep
+pub mod One
+pub mod Ready
+pub mod Cases

@@ -1,0 +1,16 @@
+use borrow.Author.Needs.{needs}
+use mathlib.Core.Path.{ap, _∙_}
+use Prim.Native.Nat.{ℕ}
+use lib.Dec.{ltb}
+use Rattle.packing.proofs.Steep.{steep}
+use Rattle.packing.proofs.each_packable.Statement.{statement}
+use Rattle.packing.proofs.each_packable.Tie as tie
+
+largest-magnitude-requires : tie.Need-largest-magnitude-requires
+largest-magnitude-requires c κs = search needs
+
+returns : tie.Need-returns
+returns c = ap (λ (m : ℕ). ltb m 2139095040) (c .largest-magnitude .ensures) ∙ steep _ _
+
+pub each-packable-spec : {M : Type 1} → statement M
+each-packable-spec = tie.close (tie.spec largest-magnitude-requires returns)
