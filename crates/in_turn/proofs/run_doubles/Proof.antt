@@ -1,0 +1,78 @@
+-- Turn after turn, by the laws of `Turns`.
+use borrow.Author.Needs.{needs}
+use Prim.Native.Nat.{_-_}
+use native.Mathlib.Omega.{arith}
+use lib.IntN.{pos}
+use lib.ListN.{length, getD}
+use mir.Facts.{toZ-ofZ}
+use mir.Syntax.{w32}
+use mir.Val.{SFits}
+use Rattle.in_turn.proofs.Turns.{Turn, turn-start, turn-next, turn-end}
+use Rattle.in_turn.proofs.Promise.{promised}
+use Rattle.in_turn.proofs.run_doubles.Statement.{statement}
+use Rattle.in_turn.proofs.run_doubles.Tie as tie
+
+abbrev Inv-loop : tie.InvT-loop
+Inv-loop readings₀ methods settings mark n i₀ readings i = Turn 52 11 methods settings mark readings₀ readings i
+
+abbrev μ-loop : tie.MeasureT-loop
+μ-loop readings₀ methods settings mark n i₀ readings i = n - i
+
+calls-requires : tie.Need-calls-requires Inv-loop μ-loop
+calls-requires c κs = tt
+
+loop-holds : tie.Need-loop-holds Inv-loop μ-loop
+loop-holds c = turn-start 52 11 _ _ _ _
+
+mul-trim-doubles : tie.Need-mul-trim-doubles Inv-loop μ-loop
+mul-trim-doubles c = search needs
+
+shared-slice-read-trim-doubles : tie.Need-shared-slice-read-trim-doubles Inv-loop μ-loop
+shared-slice-read-trim-doubles c = search needs
+
+mul-trim-doubles-2 : tie.Need-mul-trim-doubles-2 Inv-loop μ-loop
+mul-trim-doubles-2 c = search needs
+
+shared-slice-copy-out-trim-doubles : tie.Need-shared-slice-copy-out-trim-doubles Inv-loop μ-loop
+shared-slice-copy-out-trim-doubles c = search needs
+
+trim-doubles-requires : tie.Need-trim-doubles-requires Inv-loop μ-loop
+trim-doubles-requires c κs = tt
+
+add-i : tie.Need-add-i Inv-loop μ-loop
+add-i c = search needs
+
+loop-less : tie.Need-loop-less Inv-loop μ-loop
+loop-less c = search needs
+
+loop-again : tie.Need-loop-again Inv-loop μ-loop
+loop-again c =
+    let at = c .before .before .before .before .before .before .before in
+    let z = getD (at .before .before .before .before .args .settings .now) (at .loop .i) (pos 0) in
+    let fit : SFits w32 z = search needs in
+    turn-next 52 11 _ _ _ _ _ _ _ _ (omega (arith, at .before .calls .ensures)) (toZ-ofZ fit) (c .before .before .trim-doubles .ensures .1) (at .loop .inv)
+
+same-length : tie.Need-same-length Inv-loop μ-loop
+same-length c = promised 52 11 (turn-end 52 11 _ _ _ _ _ _ (omega (arith, c .before .before .calls .ensures)) (c .before .loop .inv)) .as-long
+
+returns : tie.Need-returns Inv-loop μ-loop
+returns c = turn-end 52 11 _ _ _ _ _ _ (omega (arith, c .before .before .calls .ensures)) (c .before .loop .inv)
+
+pub run-doubles-spec : {M : Type 1} → statement M
+run-doubles-spec =
+    tie.close
+    (tie.spec
+    Inv-loop
+    μ-loop
+    calls-requires
+    loop-holds
+    mul-trim-doubles
+    shared-slice-read-trim-doubles
+    mul-trim-doubles-2
+    shared-slice-copy-out-trim-doubles
+    trim-doubles-requires
+    add-i
+    loop-less
+    loop-again
+    same-length
+    returns)
