@@ -1,6 +1,6 @@
 -- The calls of a list, one turn of a loop after the other, for every width: the calls that are left give of the array as it is now what the whole list gives of
 -- the array as it was.
-use mathlib.Core.Path.{_≡_, refl, sym, ap, _∙_}
+use mathlib.Core.Path.{_≡_, refl}
 use mathlib.Core.List.{List, [], _∷_, zipWith}
 use Prim.Native.Nat.{ℕ, min, _+_, _≤_, _<_}
 use native.Mathlib.Decide.{decLe}
@@ -9,10 +9,13 @@ use native.Mathlib.Omega.{arith}
 use lib.IntN.{ℤ, pos}
 use lib.ListN.{length, getD, drop, drop-of-length-le}
 use lib.Seq.{drop-cons}
-use Rattle.meaning.specs.Calls.{Call, trim, inTurn}
+use mir.Facts.{toZ-ofZ}
+use mir.Syntax.{w32}
+use mir.Val.{SFits, toZ, ofZ}
+use Rattle.meaning.specs.Calls.{trim, inTurn}
 use Rattle.in_turn.specs.Lists.{callOf, callsOf}
 
--- one call more, and no more
+-- the calls from place i on: the next one first, and none from the end on
 calls-next : (ms : List ℕ) (ss : List ℤ) (i : ℕ) → i < length ms → i < length ss
     → callsOf (drop i ms) (drop i ss) ≡ callOf (getD ms i 0) (getD ss i (pos 0)) ∷ callsOf (drop (i + 1) ms) (drop (i + 1) ss)
 unfolding zipWith
@@ -37,29 +40,17 @@ module _ (F X : ℕ) where
     pub within : i ≤ min (length ms) (length ss)
     pub rest : inTurn F X (callsOf (drop i ms) (drop i ss)) mark ws ≡ inTurn F X (callsOf ms ss) mark before
 
-  inTurn-next : (c : Call) (cs : List Call) (mark : ℕ) (ws : List ℕ) → inTurn F X (c ∷ cs) mark ws ≡ inTurn F X cs mark (trim F X (c .method) (c .setting) mark ws .readings)
-  unfolding inTurn
-  inTurn-next c cs mark ws = refl
-
-  inTurn-end : (mark : ℕ) (ws : List ℕ) → inTurn F X [] mark ws ≡ ws
-  unfolding inTurn
-  inTurn-end mark ws = refl
-
   module _ (ms : List ℕ) (ss : List ℤ) (mark : ℕ) (before : List ℕ) where
     pub turn-start : Turn ms ss mark before before 0
     turn-start = record { within = omega arith; rest = refl }
 
-    -- the call of a turn, with the setting that was read
-    pub turn-next : (ws after : List ℕ) (i : ℕ) (z : ℤ) → i < min (length ms) (length ss) → z ≡ getD ss i (pos 0)
-        → after ≡ trim F X (getD ms i 0) z mark ws .readings → Turn ms ss mark before ws i → Turn ms ss mark before after (i + 1)
-    turn-next ws after i z h s e t =
-        record {
-          within = omega arith;
-          rest =
-              rw (e, s)
-              (sym (ap (λ (cs : List Call). inTurn F X cs mark ws) (calls-next ms ss i (omega arith) (omega arith)) ∙ inTurn-next (callOf (getD ms i 0) (getD ss i (pos 0))) _ mark ws)
-              ∙ t .rest);
-        }
+    -- one call, whose setting fits an i32
+    pub turn-next : (ws after : List ℕ) (i : ℕ) → i < min (length ms) (length ss) → after ≡ trim F X (getD ms i 0) (toZ w32 (ofZ w32 (getD ss i (pos 0)))) mark ws .readings
+        → SFits w32 (getD ss i (pos 0)) → Turn ms ss mark before ws i → Turn ms ss mark before after (i + 1)
+    unfolding inTurn
+    turn-next ws after i h e f t =
+        record { within = omega arith; rest = rw (e, toZ-ofZ f) (rw (calls-next ms ss i (omega arith) (omega arith)) at (t .rest)) }
 
     pub turn-end : (ws : List ℕ) (i : ℕ) → min (length ms) (length ss) ≤ i → Turn ms ss mark before ws i → ws ≡ inTurn F X (callsOf ms ss) mark before
-    turn-end ws i h t = sym (ap (λ (cs : List Call). inTurn F X cs mark ws) (calls-none ms ss i h) ∙ inTurn-end mark ws) ∙ t .rest
+    unfolding inTurn
+    turn-end ws i h t = rw (calls-none ms ss i h) at (t .rest)

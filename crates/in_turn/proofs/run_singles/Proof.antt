@@ -2,11 +2,7 @@
 use borrow.Author.Needs.{needs}
 use Prim.Native.Nat.{_-_}
 use native.Mathlib.Omega.{arith}
-use lib.IntN.{pos}
-use lib.ListN.{length, getD}
-use mir.Facts.{toZ-ofZ}
-use mir.Syntax.{w32}
-use mir.Val.{SFits}
+use lib.ListN.{length}
 use Rattle.in_turn.proofs.Turns.{Turn, turn-start, turn-next, turn-end}
 use Rattle.in_turn.proofs.Promise.{promised}
 use Rattle.in_turn.proofs.run_singles.Statement.{statement}
@@ -48,9 +44,7 @@ loop-less c = search needs
 loop-again : tie.Need-loop-again Inv-loop μ-loop
 loop-again c =
     let at = c .before .before .before .before .before .before .before in
-    let z = getD (at .before .before .before .before .args .settings .now) (at .loop .i) (pos 0) in
-    let fit : SFits w32 z = search needs in
-    turn-next 23 8 _ _ _ _ _ _ _ _ (omega (arith, at .before .calls .ensures)) (toZ-ofZ fit) (c .before .before .trim-singles .ensures .1) (at .loop .inv)
+    turn-next 23 8 _ _ _ _ _ _ _ (omega (arith, at .before .calls .ensures)) (c .before .before .trim-singles .ensures .1) (search needs) (at .loop .inv)
 
 same-length : tie.Need-same-length Inv-loop μ-loop
 same-length c = promised 23 8 (turn-end 23 8 _ _ _ _ _ _ (omega (arith, c .before .before .calls .ensures)) (c .before .loop .inv)) .as-long
