@@ -1,6 +1,6 @@
 -- The calls of a list, one turn of a loop after the other, for every width: the calls that are left give of the array as it is now what the whole list gives of
 -- the array as it was.
-use mathlib.Core.Path.{_≡_, refl}
+use mathlib.Core.Path.{_≡_, refl, sym, ap, _∙_}
 use mathlib.Core.List.{List, [], _∷_, zipWith}
 use Prim.Native.Nat.{ℕ, min, _+_, _≤_, _<_}
 use native.Mathlib.Decide.{decLe}
@@ -13,6 +13,7 @@ use mir.Facts.{toZ-ofZ}
 use mir.Syntax.{w32}
 use mir.Val.{SFits, toZ, ofZ}
 use Rattle.meaning.specs.Calls.{trim, inTurn}
+use Rattle.meaning.proofs.Claim.{list-claim}
 use Rattle.in_turn.specs.Lists.{callOf, callsOf}
 
 -- the calls from place i on: the next one first, and none from the end on
@@ -50,6 +51,11 @@ module _ (F X : ℕ) where
     unfolding inTurn
     turn-next ws after i h e f t =
         record { within = omega arith; rest = rw (e, toZ-ofZ f) (rw (calls-next ms ss i (omega arith) (omega arith)) at (t .rest)) }
+
+    -- no call changes the length
+    pub turn-long : (ws : List ℕ) (i : ℕ) → Turn ms ss mark before ws i → length ws ≡ length before
+    turn-long ws i t =
+        sym (list-claim F X (callsOf (drop i ms) (drop i ss)) mark ws .as-long) ∙ ap length (t .rest) ∙ list-claim F X (callsOf ms ss) mark before .as-long
 
     pub turn-end : (ws : List ℕ) (i : ℕ) → min (length ms) (length ss) ≤ i → Turn ms ss mark before ws i → ws ≡ inTurn F X (callsOf ms ss) mark before
     unfolding inTurn

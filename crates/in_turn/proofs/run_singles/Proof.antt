@@ -3,8 +3,7 @@ use borrow.Author.Needs.{needs}
 use Prim.Native.Nat.{_-_}
 use native.Mathlib.Omega.{arith}
 use lib.ListN.{length}
-use Rattle.in_turn.proofs.Turns.{Turn, turn-start, turn-next, turn-end}
-use Rattle.in_turn.proofs.Promise.{promised}
+use Rattle.in_turn.proofs.Turns.{Turn, turn-start, turn-next, turn-long, turn-end}
 use Rattle.in_turn.proofs.run_singles.Statement.{statement}
 use Rattle.in_turn.proofs.run_singles.Tie as tie
 
@@ -47,7 +46,7 @@ loop-again c =
     turn-next 23 8 _ _ _ _ _ _ _ (omega (arith, at .before .calls .ensures)) (c .before .before .trim-singles .ensures .1) (search needs) (at .loop .inv)
 
 same-length : tie.Need-same-length Inv-loop μ-loop
-same-length c = promised 23 8 (turn-end 23 8 _ _ _ _ _ _ (omega (arith, c .before .before .calls .ensures)) (c .before .loop .inv)) .as-long
+same-length c = turn-long 23 8 _ _ _ _ _ _ (c .before .loop .inv)
 
 returns : tie.Need-returns Inv-loop μ-loop
 returns c = turn-end 23 8 _ _ _ _ _ _ (omega (arith, c .before .before .calls .ensures)) (c .before .loop .inv)
