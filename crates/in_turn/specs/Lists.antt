@@ -8,10 +8,10 @@ use lib.ListN.{length, getD}
 use Rattle.meaning.specs.Calls.{Call, acceptedCalls}
 use Rattle.meaning.specs.Claim.{oneKind, Kept}
 
--- the list whose i-th call has the i-th method and the i-th setting
 abbrev pub callOf : ℕ → ℤ → Call
 callOf m s = record { method = m; setting = s }
 
+-- call i has method i and setting i; what one slice has beyond the other makes no call
 abbrev pub callsOf : List ℕ → List ℤ → List Call
 callsOf ms ss = zipWith callOf ms ss
 
