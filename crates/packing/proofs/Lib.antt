@@ -2,3 +2,5 @@ pub mod Steep
 pub mod One
 pub mod Ready
 pub mod Cases
+pub mod Turns
+pub mod Asked

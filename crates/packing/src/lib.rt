@@ -7,11 +7,16 @@ ghost use lib.IntN.{subℕ};
 ghost use lib.Ieee.{binary32, toBits};
 ghost use lib.ListN.{length};
 ghost use Rattle.meaning.specs.Readings.{finite, missing};
-ghost use Rattle.meaning.specs.Layers.{Spread, summary, code, layerOf};
+ghost use Rattle.meaning.specs.Layers.{Spread, summary, code, layerOf, packedCodes};
 ghost use Rattle.meaning.specs.Questions.{all};
-ghost use Rattle.meaning.specs.Calls as meaning;
 ghost use Rattle.summary.specs.Summaries.{Packable};
-ghost use Rattle.packing.specs.Packing.{steepest, flatCode, One, PackedAs};
+ghost use Rattle.packing.specs.Answers.{answerOf, packed};
+ghost use Rattle.packing.specs.Packing.{steepest, flatCode, One, PackedAs, Fit, packedReferences, packedExponents};
+
+pub enum Packed {
+    Done,
+    Refused(u32),
+}
 
 // What is stored of a layer beside its codes.
 pub struct Layer {
@@ -113,4 +118,67 @@ fn pack_layer(readings: &[u32], mark: u32, codes: &mut [u16]) -> Layer
         summary::Summary::Flat(a) => flat_layer(readings, mark, a, codes),
         summary::Summary::Spread(a, z) => spread_layer(readings, mark, a, z, codes),
     }
+}
+
+// Packs the layers, runs of `run` readings, one after another, each into its own part of the codes. All lengths fit, and each reading is finite or missing.
+fn pack_layers(
+    readings: &[u32],
+    mark: u32,
+    run: usize,
+    codes: &mut [u16],
+    references: &mut [f32],
+    exponents: &mut [i32],
+)
+    requires { ⌜ Fit run (now readings) (now codes) (now references) (now exponents) ⌝ }
+    requires { ⌜ Packable mark (now readings) ⌝ }
+    ensures codes { λ _. ⌜ now (codes .exit) ≡ packedCodes 23 8 16 263 mark run (now (readings .entry)) ⌝ }
+    ensures references { λ _. ⌜ map (toBits binary32) (now (references .exit)) ≡ packedReferences mark run (now (readings .entry)) ⌝ }
+    ensures exponents { λ _. ⌜ now (exponents .exit) ≡ packedExponents mark run (now (readings .entry)) ⌝ }
+{
+    let mut from: usize = 0;
+    let mut i: usize = 0;
+    while i < references.len() {
+        let to = from + run;
+        let part = &readings[from..to];
+        let layer = pack_layer(part, mark, &mut codes[from..to]);
+        references[i] = layer.reference;
+        let x = layer.exponent;
+        exponents[i] = x;
+        from = to;
+        i += 1;
+    }
+}
+
+// Packs an array of singles, layer by layer. Each layer has `length` readings; the mark means missing and is compared by its bits. Each layer leaves a code for each
+// reading, a reference and a step exponent. Or answers the refusal's number, and then no array is touched: 3 for a length that isn't 1 to 65,536, 4 where the readings
+// are no whole number of layers, 5 where another array has the wrong length, 6 where a reading is neither finite nor the mark.
+pub fn pack(
+    readings: &[u32],
+    mark: u32,
+    length: usize,
+    codes: &mut [u16],
+    references: &mut [f32],
+    exponents: &mut [i32],
+) -> Packed
+    ensures answer { λ r. ⌜ answerOf r ≡ packed mark length (now (readings .entry)) (now (codes .entry)) (now (references .entry)) (now (exponents .entry)) .answer ⌝ }
+    ensures codes { λ _. ⌜ now (codes .exit) ≡ packed mark length (now (readings .entry)) (now (codes .entry)) (now (references .entry)) (now (exponents .entry)) .codes ⌝ }
+    ensures references { λ _. ⌜ map (toBits binary32) (now (references .exit)) ≡ packed mark length (now (readings .entry)) (now (codes .entry)) (now (references .entry)) (now (exponents .entry)) .references ⌝ }
+    ensures exponents { λ _. ⌜ now (exponents .exit) ≡ packed mark length (now (readings .entry)) (now (codes .entry)) (now (references .entry)) (now (exponents .entry)) .exponents ⌝ }
+{
+    let asked = asking::ask_layers(
+        length,
+        readings.len(),
+        codes.len(),
+        references.len(),
+        exponents.len(),
+    );
+    if asked != 0 {
+        return Packed::Refused(asked);
+    }
+    let good = each_packable(readings, mark);
+    if good {
+        pack_layers(readings, mark, length, codes, references, exponents);
+        return Packed::Done;
+    }
+    Packed::Refused(6)
 }
