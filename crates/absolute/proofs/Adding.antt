@@ -20,7 +20,7 @@ use Rattle.meaning.proofs.Nearest.{nearest-down, nearest-up, nearest-tie, neare
 use Rattle.absolute.proofs.Values.{add-values, sub-values}
 
 -- the kit's nearest whole number is document 01's
-closest-is : (n g : ℕ) → closest n g ≡ nearest n g
+pub closest-is : (n g : ℕ) → closest n g ≡ nearest n g
 closest-is n g =
     go (compare r g) (leb→le r g) (nleb→lt r g) (eqb→eq r g) (λ (e : r ≡ g). subst (λ (x : ℕ). T (eqb r x)) e (eqb-refl r))
   where
@@ -65,26 +65,24 @@ top-is f q = pow-add 2 (prec f) q ∙ ap (λ (x : ℕ). x * 2 ^ q) (double-hidde
 below-overflow : (f : Format) (q : ℕ) → q + 2 ≤ 2 * emax f → 2 * 2 ^ (prec f - 1) * 2 ^ q < overflow f
 below-overflow f q h = rw (sym (top-is f q)) (pow-lt (omega (arith, two f)))
 
+-- rounding that drops q digits of N gives the nearest multiple of 2 ^ q
+pub grid-is : (f : Format) (q N : ℕ) → length N - prec f ≡ q → grid f N (2 ^ low f) ≡ nearest N (2 ^ q) * 2 ^ q
+grid-is f q N e =
+    ap (λ (k : ℕ). closest (N * 2 ^ low f) (2 ^ low f * 2 ^ k) * 2 ^ k) (ap (λ (n : ℕ). length n - prec f) (mul-div-cancel N (pow-pos (low f))) ∙ e)
+    ∙ ap (λ (x : ℕ). x * 2 ^ q)
+    (closest-same (N * 2 ^ low f) (2 ^ low f * 2 ^ q) N (2 ^ q) (mul-pos (pow-pos (low f)) (pow-pos q)) (pow-pos q) (mul-assoc N (2 ^ low f) (2 ^ q)) ∙ closest-is N (2 ^ q))
+
 module _ (f : Format) (q N : ℕ) (l : 2 ^ (prec f - 1) * 2 ^ q ≤ N) (h : N < 2 * 2 ^ (prec f - 1) * 2 ^ q) where
   -- N has prec + q digits, so that rounding drops q of them
-  length-is : length N ≡ prec f + q
-  length-is =
+  drop-is : length N - prec f ≡ q
+  drop-is =
       let under : length N ≤ prec f + q = size-le N (prec f + q) (rw (top-is f q) h) in
       let over : prec f - 1 + q < length N = lt-of-not-le (λ (g : length N ≤ prec f - 1 + q). not-le-of-lt (lt-of-lt-of-le (size-lt N) (pow-mono g)) (rw (pow-add 2 (prec f - 1) q) l)) in
       omega (arith, two f)
 
-  drop-is : length (N * 2 ^ low f / 2 ^ low f) - prec f ≡ q
-  drop-is = rw (mul-div-cancel N (pow-pos (low f)), length-is) (omega arith)
-
-  grid-is : grid f N (2 ^ low f) ≡ nearest N (2 ^ q) * 2 ^ q
-  grid-is =
-      ap (λ (k : ℕ). closest (N * 2 ^ low f) (2 ^ low f * 2 ^ k) * 2 ^ k) drop-is
-      ∙ ap (λ (x : ℕ). x * 2 ^ q)
-      (closest-same (N * 2 ^ low f) (2 ^ low f * 2 ^ q) N (2 ^ q) (mul-pos (pow-pos (low f)) (pow-pos q)) (pow-pos q) (mul-assoc N (2 ^ low f) (2 ^ q)) ∙ closest-is N (2 ^ q))
-
   -- in that binade the nearest value is the nearest multiple of 2 ^ q
   round-binade : nearest N (2 ^ q) * 2 ^ q < overflow f → HasValue (round f false N (2 ^ low f)) false (nearest N (2 ^ q) * 2 ^ q) (2 ^ low f)
-  round-binade o = rw (sym grid-is) (round-val f N (2 ^ low f) (rw grid-is o))
+  round-binade o = let e = grid-is f q N drop-is in rw (sym e) (round-val f N (2 ^ low f) (rw e o))
 
 -- ---- 2 ^ (F + q) added and taken off
 

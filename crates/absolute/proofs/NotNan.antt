@@ -34,7 +34,7 @@ units-number : (f : Format) (s : Bool) (q k : ℕ) → Number (units f s q k)
 unfolding units
 units-number f s q k = cond-number (ltb (q * 2 ^ k) (2 ^ (low f + suc (emax f)))) _ (inf s) (odd-number (suc (prec f)) s q k (low f)) (inf-number s)
 
-round-number : (f : Format) (s : Bool) (n d : ℕ) → Number (round f s n d)
+pub round-number : (f : Format) (s : Bool) (n d : ℕ) → Number (round f s n d)
 round-number f s n d = rw (round-is f s n d) (units-number f s (closest (n * 2 ^ low f) (d * 2 ^ (length (n * 2 ^ low f / d) - prec f))) _)
 
 sum-number : (f : Format) (s : Bool) (a : ℕ) (t : Bool) (b c : ℕ) → Number (sum f s a t b c)
@@ -42,7 +42,7 @@ unfolding sum
 sum-number f s a t b c =
     cond-number (Bool·beq s t) _ _ (round-number f s (a + b) c) (cond-number (ltb a b) _ _ (round-number f t (b - a) c) (round-number f (s && ltb b a) (a - b) c))
 
-add-number : (f : Format) (x y : Float) (t : Bool) (b c : ℕ) → Number x → HasValue y t b c → Number (add f x y)
+pub add-number : (f : Format) (x y : Float) (t : Bool) (b c : ℕ) → Number x → HasValue y t b c → Number (add f x y)
 unfolding add isNan
 add-number f nan y t b c p k = absurd p
 add-number f (inf s) nan t b c p k = absurd k

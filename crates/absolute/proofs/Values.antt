@@ -3,7 +3,7 @@
 use mathlib.Core.Path.{_≡_, refl, sym, ap, _∙_, subst}
 use mathlib.Core.Bool.{Bool, false, cond, not}
 use Prim.Native.Nat.{ℕ, zero, suc, _+_, _-_, _*_, _/_, _%_, _^_, _≤_, _<_}
-use native.Mathlib.Nat.{div-lt-iff-lt-mul, le-of-mul-le-mul-right, mod-eq-of-lt, mul-assoc, mul-comm, mul-div-cancel, mul-le-mul-right, mul-one, mul-pos, mul-right-comm, mul-sub, zero-add}
+use native.Mathlib.Nat.{add-assoc, div-lt-iff-lt-mul, le-of-mul-le-mul-right, mod-eq-of-lt, mul-assoc, mul-comm, mul-div-cancel, mul-le-mul-right, mul-one, mul-pos, mul-right-comm, mul-sub, zero-add}
 use native.Mathlib.Numerals.{sub-one}
 use native.Mathlib.Omega.{arith}
 use borrow.Author.Tests.{le-ltb, lt-leb, ne-eqb}
@@ -36,18 +36,19 @@ fields f m h =
     ap (λ (t : Bool). ofFields f t (m % top f / hid f) (m % hid f)) (lt-leb (top f) m h)
     ∙ ap (λ (k : ℕ). ofFields f false (k / hid f) (m % hid f)) (mod-eq-of-lt h)
 
--- and the value that they stand for
-fields-value : (f : Format) (e t : ℕ) → (e ≡ ones f → ⊥) → HasValue (ofFields f false e t) false (cond (eqb e 0) t ((hid f + t) * 2 ^ (e - 1))) (2 ^ low f)
+-- and the value that they stand for, with any sign
+pub fields-value : (f : Format) (s : Bool) (e t : ℕ) → (e ≡ ones f → ⊥) → HasValue (ofFields f s e t) s (cond (eqb e 0) t ((hid f + t) * 2 ^ (e - 1))) (2 ^ low f)
 unfolding ofFields
-fields-value f zero t h = subst (λ (n : ℕ). HasValue (odd (prec f) false t 0 (low f)) false n (2 ^ low f)) (mul-one t) (odd-sign (prec f) false t 0 (low f))
-fields-value f (suc x) t h = rw (ne-eqb (suc x) (ones f) h, eqb·suc-zero, sub-one (suc x)) (odd-sign (prec f) false (hid f + t) x (low f))
+fields-value f s zero t h = subst (λ (n : ℕ). HasValue (odd (prec f) s t 0 (low f)) s n (2 ^ low f)) (mul-one t) (odd-sign (prec f) s t 0 (low f))
+fields-value f s (suc x) t h = rw (ne-eqb (suc x) (ones f) h, eqb·suc-zero, sub-one (suc x)) (odd-sign (prec f) s (hid f + t) x (low f))
 
--- a pattern turns on the value alone
-value-bits : (f : Format) (x : Float) (a : ℕ) → HasValue x false a (2 ^ low f) → toBits f x ≡ (length a - prec f) * hid f + a / 2 ^ (length a - prec f)
+-- a pattern turns on the sign and the value alone
+value-bits : (f : Format) (x : Float) (s : Bool) (a : ℕ) → HasValue x s a (2 ^ low f)
+    → toBits f x ≡ cond s (top f) 0 + ((length a - prec f) * hid f + a / 2 ^ (length a - prec f))
 unfolding toBits
-value-bits f nan a h = absurd h
-value-bits f (inf s) a h = absurd h
-value-bits f (fin s m e) a h = rw (h .0, h .1, mul-div-cancel a (down-pos e), zero-add) refl
+value-bits f nan s a h = absurd h
+value-bits f (inf t) s a h = absurd h
+value-bits f (fin t m e) s a h = rw (h .0, h .1, mul-div-cancel a (down-pos e)) (add-assoc (cond s (top f) 0) _ _)
 
 module _ (f : Format) (m : ℕ) (h : m < infinity (prec f - 1) (exponentBits f)) where
   under : m < ones f * hid f
@@ -62,7 +63,7 @@ module _ (f : Format) (m : ℕ) (h : m < infinity (prec f - 1) (exponentBits f))
   bits-size =
       let e : m / hid f < ones f = div-lt-iff-lt-mul (pow-pos (prec f - 1)) .1 under in
       subst (λ (x : Float). HasValue x false (size (prec f - 1) m) (2 ^ low f)) (sym (fields f m under-top))
-      (fields-value f (m / hid f) (m % hid f) (λ z. let y : m / hid f ≡ ones f = z in omega arith))
+      (fields-value f false (m / hid f) (m % hid f) (λ z. let y : m / hid f ≡ ones f = z in omega arith))
 
   number : T (not (isNan (ofBits f m)))
   number = value-number (ofBits f m) false (size (prec f - 1) m) (2 ^ low f) bits-size
@@ -70,12 +71,15 @@ module _ (f : Format) (m : ℕ) (h : m < infinity (prec f - 1) (exponentBits f))
   pub bits-number : T (not (nanBits f m))
   bits-number = rw (nanBits-is f m) number
 
-  -- and back: what has the size of a finite magnitude has that pattern
+  -- and back: what has the size of a finite magnitude has that magnitude, with its sign above it
+  pub signed-bits : (x : Float) (s : Bool) → HasValue x s (size (prec f - 1) m) (2 ^ low f) → toBits f x ≡ cond s (top f) 0 + m
+  signed-bits x s v =
+      value-bits f x s (size (prec f - 1) m) v
+      ∙ ap (λ (y : ℕ). cond s (top f) 0 + y)
+      (sym (zero-add _) ∙ sym (value-bits f (ofBits f m) false (size (prec f - 1) m) bits-size) ∙ toBits-ofBits f m (omega (arith, under-top)) number)
+
   pub size-bits : (x : Float) → HasValue x false (size (prec f - 1) m) (2 ^ low f) → toBits f x ≡ m
-  size-bits x v =
-      value-bits f x (size (prec f - 1) m) v
-      ∙ sym (value-bits f (ofBits f m) (size (prec f - 1) m) bits-size)
-      ∙ toBits-ofBits f m (omega (arith, under-top)) number
+  size-bits x v = signed-bits x false v ∙ zero-add m
 
 -- ---- sums and differences: what is left to round
 
