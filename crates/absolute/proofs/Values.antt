@@ -84,16 +84,16 @@ module _ (f : Format) (m : ℕ) (h : m < infinity (prec f - 1) (exponentBits f))
 -- ---- sums and differences: what is left to round
 
 -- fractions over a common denominator
-left-cross : (A a c d e : ℕ) → A * c ≡ a * e → A * d * c ≡ a * (e * d)
+pub left-cross : (A a c d e : ℕ) → A * c ≡ a * e → A * d * c ≡ a * (e * d)
 left-cross A a c d e h = rw (mul-right-comm A d c, h) (mul-assoc a e d)
 
-right-cross : (B b c d e : ℕ) → B * c ≡ b * d → B * e * c ≡ b * (e * d)
+pub right-cross : (B b c d e : ℕ) → B * c ≡ b * d → B * e * c ≡ b * (e * d)
 right-cross B b c d e h = left-cross B b c e d h ∙ ap (λ (x : ℕ). b * x) (mul-comm d e)
 
-minus-cross : (A B C a b c : ℕ) → A * c ≡ a * C → B * c ≡ b * C → (A - B) * c ≡ (a - b) * C
+pub minus-cross : (A B C a b c : ℕ) → A * c ≡ a * C → B * c ≡ b * C → (A - B) * c ≡ (a - b) * C
 minus-cross A B C a b c h k = rw (mul-comm (A - B) c, mul-sub c A B, mul-comm c A, mul-comm c B, h, k, mul-comm (a - b) C, mul-sub C a b) (omega arith)
 
-less-cross : (A B C a b c : ℕ) → 0 < c → A * c ≡ a * C → B * c ≡ b * C → b ≤ a → B ≤ A
+pub less-cross : (A B C a b c : ℕ) → 0 < c → A * c ≡ a * C → B * c ≡ b * C → b ≤ a → B ≤ A
 less-cross A B C a b c p h k l = le-of-mul-le-mul-right (omega (arith, mul-le-mul-right C l)) p
 
 module _ (f : Format) (a b c : ℕ) (p : 0 < c) where

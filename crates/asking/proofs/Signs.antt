@@ -77,7 +77,7 @@ inside (pos n) a b e k g = in-between (pos a) (pos n) (pos b) n (le-ltb n a k) (
 inside (negsuc n) a b e k g = absurd (true≢false e)
 
 -- a sum with lo + 1, of z from -(lo + 1) on
-add-above : (lo : ℕ) (z : ℤ) → ltZ z (negsuc lo) ≡ false → z +ℤ pos (suc lo) ≡ pos (above (suc lo) z)
+pub add-above : (lo : ℕ) (z : ℤ) → ltZ z (negsuc lo) ≡ false → z +ℤ pos (suc lo) ≡ pos (above (suc lo) z)
 unfolding above
 add-above lo (pos k) e = ap pos (omega arith)
 add-above lo (negsuc k) e =

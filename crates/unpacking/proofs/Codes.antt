@@ -1,0 +1,112 @@
+-- One code: the pattern of the float formula is that of the double nearest to the code's exact meaning, R plus code times the step, with nothing else rounded;
+-- an exact zero is +0. So each code unpacks to what document 01 says.
+use mathlib.Core.Path.{_≡_, refl, sym, ap, _∙_}
+use mathlib.Core.Logic.{_≢_}
+use mathlib.Core.Bool.{Bool, true, false, cond}
+use Prim.Native.Nat.{ℕ, suc, _+_, _-_, _*_, _^_, _≤_, _<_}
+use native.Mathlib.Nat.{lt-of-le-of-lt, lt-of-lt-of-le, mul-assoc, pow-suc}
+use native.Mathlib.Decide.{decLt}
+use native.Mathlib.Omega.{arith}
+use borrow.Author.Tests.{leb-true, leb-false, le-leb, lt-leb, lt-ltb, le-ltb}
+use lib.Dec.{leb, ltb, eqb}
+use lib.IntN.{ℤ, pos, negsuc}
+use lib.Pow.{pow-pos, pow-add, pow-mono, shl-lt}
+use lib.Ieee.{binary32, binary64, round, toBits, fits}
+use lib.Ieee.Exact.{HasValue}
+use lib.Ieee.Scale.{round-same}
+use Rattle.meaning.specs.Readings.{size, sign, magnitude, pattern, leastExp, origin, position, infinity}
+use Rattle.meaning.specs.Layers.{missingCode, codeMeaning, nearestMagnitude, nearestDouble, unpackedCode}
+use Rattle.meaning.specs.Questions.{above, between}
+use Rattle.meaning.specs.Calls.{storedLayer}
+use Rattle.meaning.proofs.Patterns.{finite-below, position-plus, position-minus, size-below}
+use Rattle.unpacking.specs.declared.Layer.{Layer}
+use Rattle.unpacking.specs.Floats.{finiteFloat, twoTo, unpacked, decoded}
+use Rattle.unpacking.proofs.Nearest.{nearest-bits, infinity-size}
+use Rattle.unpacking.proofs.References.{pattern-finite, pattern-value}
+use Rattle.unpacking.proofs.Sums.{exponent-most, unpacked-plus, unpacked-minus}
+
+sign-above : (s : Bool) (m : ℕ) → cond s (2 ^ 63) 0 + m ≡ pattern 52 11 (cond s 1 0) m
+unfolding pattern
+sign-above true m = refl
+sign-above false m = refl
+
+sign-plus : (w : ℕ) → leb (2 ^ 31) w ≡ false → sign 23 8 w ≡ 0
+unfolding sign
+sign-plus w e = omega (arith, leb-false (2 ^ 31) w e)
+
+sign-minus : (w : ℕ) → leb (2 ^ 31) w ≡ true → sign 23 8 w ≢ 0
+unfolding sign
+sign-minus w e z = omega (arith, leb-true (2 ^ 31) w e)
+
+-- n least spacings of singles, rounded to a double
+rounded : (s : Bool) (n : ℕ) → n < 2 ^ 280 → toBits binary64 (round binary64 s n (2 ^ 149)) ≡ pattern 52 11 (cond s 1 0) (nearestMagnitude (n * 2 ^ 925))
+unfolding nearestMagnitude
+rounded s n h =
+    ap (toBits binary64)
+    (round-same binary64 s n (2 ^ 149) (n * 2 ^ 925) (2 ^ 1074) (pow-pos 149) (pow-pos 1074) (ap (λ (x : ℕ). n * x) (pow-add 2 925 149) ∙ sym (mul-assoc n (2 ^ 925) (2 ^ 149))))
+    ∙ nearest-bits binary64 (n * 2 ^ 925) 1205 (omega arith) (shl-lt 280 925 h) s
+    ∙ sign-above s _
+
+-- the double at a position of singles, from zero on and below zero
+from-zero : (p n : ℕ) → p ≡ origin 23 8 + n → n < 2 ^ 280 → toBits binary64 (round binary64 false n (2 ^ 149)) ≡ nearestDouble p
+unfolding nearestDouble leastExp
+from-zero p n e h =
+    let d : p - origin 23 8 ≡ n = omega arith in
+    rounded false n h ∙ rw (le-leb (origin 23 8) p (omega arith), d) refl
+
+below-zero : (p n : ℕ) → p + n ≡ origin 23 8 → 0 < n → n < 2 ^ 280 → toBits binary64 (round binary64 true n (2 ^ 149)) ≡ nearestDouble p
+unfolding nearestDouble leastExp
+below-zero p n e k h =
+    let d : origin 23 8 - p ≡ n = omega arith in
+    rounded true n h ∙ rw (lt-leb (origin 23 8) p (omega arith), d) refl
+
+both-small : (k a b : ℕ) → a < 2 ^ k → b < 2 ^ k → a + b < 2 ^ suc k
+both-small k a b h l = rw (pow-suc 2 k) (omega arith)
+
+origin-size : origin 23 8 ≡ 2 ^ 277
+unfolding origin
+origin-size = infinity-size binary32
+
+module _ (l : Layer) (e : ℤ) (fit : fits binary32 (l .reference) ≡ true) (fin : finiteFloat (l .reference) ≡ true)
+    (t : between (negsuc 148) e (pos 114) ≡ true) (q : l .step ≡ twoTo e) (code : ℕ) (h : code < 2 ^ 16) where
+  abbrev w : ℕ
+  w = toBits binary32 (l .reference)
+
+  -- the reference's size, and the code times the step
+  abbrev a : ℕ
+  a = size 23 (magnitude 23 8 w)
+
+  abbrev b : ℕ
+  b = code * 2 ^ above 149 e
+
+  a-below : a < origin 23 8
+  a-below = size-below 23 8 (finite-below 23 8 w (sym (pattern-finite binary32 (l .reference) fit) ∙ fin))
+
+  a-small : a < 2 ^ 279
+  a-small = lt-of-lt-of-le (rw origin-size at a-below) (pow-mono {i = 277} {j = 279} (omega arith))
+
+  b-small : b < 2 ^ 279
+  b-small = lt-of-lt-of-le (shl-lt 16 (above 149 e) h) (pow-mono {i = 16 + above 149 e} {j = 279} (omega (arith, exponent-most e t)))
+
+  all-small : (n : ℕ) → n ≤ a + b → n < 2 ^ 280
+  all-small n k = lt-of-le-of-lt k (both-small 279 a b a-small b-small)
+
+  pub code-nearest : toBits binary64 (unpacked l code) ≡ nearestDouble (codeMeaning 23 8 (storedLayer w e) code)
+  unfolding codeMeaning storedLayer
+  code-nearest = go (leb (2 ^ 31) w) refl (pattern-value binary32 (l .reference) fit fin) (decLt b a)
+    where
+      go : (s : Bool) → leb (2 ^ 31) w ≡ s → HasValue (l .reference) s a (2 ^ 149) → Dec (b < a) → toBits binary64 (unpacked l code) ≡ nearestDouble (position 23 8 w + b)
+      go false z v d =
+          ap (toBits binary64) (unpacked-plus l code e a h t q v)
+          ∙ from-zero (position 23 8 w + b) (b + a) (rw (position-plus 23 8 w (sign-plus w z)) (omega arith)) (all-small (b + a) (omega arith))
+      go true z v (yes o) =
+          ap (toBits binary64) (unpacked-minus l code e a h t q v ∙ rw (lt-ltb b a o) refl)
+          ∙ below-zero (position 23 8 w + b) (a - b) (rw (position-minus 23 8 w (sign-minus w z)) (omega (arith, a-below))) (omega arith) (all-small (a - b) (omega arith))
+      go true z v (no o) =
+          let k : a ≤ b = omega arith in
+          ap (toBits binary64) (unpacked-minus l code e a h t q v ∙ rw (le-ltb b a k) refl)
+          ∙ from-zero (position 23 8 w + b) (b - a) (rw (position-minus 23 8 w (sign-minus w z)) (omega (arith, a-below))) (all-small (b - a) (omega arith))
+
+  pub code-decoded : (mark : ℕ) → decoded l mark code ≡ unpackedCode 16 mark (storedLayer w e) code
+  unfolding decoded unpackedCode missingCode
+  code-decoded mark = ap (λ (x : ℕ). cond (eqb code 65535) mark x) code-nearest

@@ -1,0 +1,24 @@
+-- `value_of` meets its contract: it is the formula itself, and the reference widens since it is no NaN.
+use mathlib.Core.Path.{refl}
+use borrow.Author.Needs.{needs}
+use Rattle.unpacking.specs.Floats.{unpacked}
+use Rattle.absolute.proofs.NotNan.{Number}
+use Rattle.unpacking.proofs.Finite.{finite-number}
+use Rattle.unpacking.proofs.value_of.Statement.{statement}
+use Rattle.unpacking.proofs.value_of.Tie as tie
+
+int-to-float-result : tie.Need-int-to-float-result
+int-to-float-result c = search needs
+
+float-to-float-result : tie.Need-float-to-float-result
+float-to-float-result c =
+    let s = c .before .before .before in
+    let n : Number (s .args .l .reference) = finite-number (s .args .l .reference) (s .pre .reference) in
+    search needs
+
+returns : tie.Need-returns
+unfolding unpacked
+returns c = refl
+
+pub value-of-spec : {M : Type 1} → statement M
+value-of-spec = tie.close (tie.spec int-to-float-result float-to-float-result returns)

@@ -1,0 +1,29 @@
+-- One code unpacked by floats: the code as a double, times the step, plus the reference.
+use mathlib.Core.Path.{_≡_}
+use mathlib.Core.Bool.{Bool, true, false, cond}
+use Prim.Native.Nat.{ℕ}
+use lib.Dec.{eqb}
+use lib.IntN.{ℤ, pos}
+use lib.Ieee.{Float, nan, inf, fin, binary64, ofInt, mul, add, toBits}
+use Rattle.unpacking.specs.declared.Layer.{Layer}
+
+abbrev pub finiteFloat : Float → Bool
+finiteFloat nan = false
+finiteFloat (inf s) = false
+finiteFloat (fin s m e) = true
+
+-- 2^e
+abbrev pub twoTo : ℤ → Float
+twoTo e = fin false 1 e
+
+pub record Finite (l : Layer) : Type 0 where
+  pub reference : finiteFloat (l .reference) ≡ true
+  pub step : finiteFloat (l .step) ≡ true
+
+-- "the code as a double, times 2^E, plus R"
+unfoldable pub unpacked : Layer → ℕ → Float
+unpacked l code = add binary64 (mul binary64 (ofInt binary64 (pos code)) (l .step)) (l .reference)
+
+-- its pattern, or the mark for a missing code
+unfoldable pub decoded : Layer → ℕ → ℕ → ℕ
+decoded l mark code = cond (eqb code 65535) mark (toBits binary64 (unpacked l code))
