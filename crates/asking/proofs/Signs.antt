@@ -34,7 +34,7 @@ abs-fits (pos n) h e = h .sfits
 abs-fits (negsuc n) h e = absurd (true≢false e)
 
 -- one of the two tests by the other
-le-by-lt : (l z : ℤ) (t : Bool) → ltZ z l ≡ t → leZ l z ≡ not t
+pub le-by-lt : (l z : ℤ) (t : Bool) → ltZ z l ≡ t → leZ l z ≡ not t
 le-by-lt (pos a) (pos b) true e = lt-leb a b (ltb-true b a e)
 le-by-lt (pos a) (pos b) false e = le-leb a b (ltb-false b a e)
 le-by-lt (pos a) (negsuc b) true e = refl
@@ -44,7 +44,7 @@ le-by-lt (negsuc a) (pos b) false e = refl
 le-by-lt (negsuc a) (negsuc b) true e = lt-leb b a (ltb-true a b e)
 le-by-lt (negsuc a) (negsuc b) false e = le-leb b a (ltb-false a b e)
 
-and-false : (a : Bool) → a && false ≡ false
+pub and-false : (a : Bool) → a && false ≡ false
 and-false true = refl
 and-false false = refl
 

@@ -8,7 +8,7 @@ use native.Mathlib.Nat.{lt-of-le-of-lt, lt-of-lt-of-le, mul-assoc, pow-suc}
 use native.Mathlib.Decide.{decLt}
 use native.Mathlib.Omega.{arith}
 use borrow.Author.Tests.{leb-true, leb-false, le-leb, lt-leb, lt-ltb, le-ltb}
-use lib.Dec.{leb, ltb, eqb}
+use lib.Dec.{T, leb, ltb, eqb}
 use lib.IntN.{ℤ, pos, negsuc}
 use lib.Pow.{pow-pos, pow-add, pow-mono, shl-lt}
 use lib.Ieee.{binary32, binary64, round, toBits, fits}
@@ -67,7 +67,7 @@ origin-size : origin 23 8 ≡ 2 ^ 277
 unfolding origin
 origin-size = infinity-size binary32
 
-module _ (l : Layer) (e : ℤ) (fit : fits binary32 (l .reference) ≡ true) (fin : finiteFloat (l .reference) ≡ true)
+module _ (l : Layer) (e : ℤ) (fit : T (fits binary32 (l .reference))) (fin : finiteFloat (l .reference) ≡ true)
     (t : between (negsuc 148) e (pos 114) ≡ true) (q : l .step ≡ twoTo e) (code : ℕ) (h : code < 2 ^ 16) where
   abbrev w : ℕ
   w = toBits binary32 (l .reference)

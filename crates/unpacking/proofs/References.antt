@@ -6,7 +6,7 @@ use native.Mathlib.Nat.{div-lt-iff-lt-mul, le-div-iff-mul-le, dvd-mul-right, mod
 use native.Mathlib.Decide.{decLt}
 use native.Mathlib.Omega.{arith}
 use borrow.Author.Tests.{eq-eqb, ne-eqb, lt-ltb, le-ltb}
-use lib.Dec.{eqb, leb, ltb}
+use lib.Dec.{T, eqb, leb, ltb}
 use lib.Pow.{pow-pos}
 use lib.Ieee.{Float, nan, inf, fin, Format, binary32, binary64, prec, low, hid, ones, top, odd, ofFields, ofBits, toBits, fits}
 use lib.Ieee.Bits.{ofBits-toBits}
@@ -82,9 +82,9 @@ module _ (f : Format) (w : ℕ) where
       (fields-value f (leb (top f) w) (w % top f / hid f) (w % hid f) (field-not-ones h))
 
 -- a value of the format, by its pattern
-module _ (f : Format) (x : Float) (h : fits f x ≡ true) where
+module _ (f : Format) (x : Float) (h : T (fits f x)) where
   back : ofBits f (toBits f x) ≡ x
-  back = ofBits-toBits f x (rw h tt)
+  back = ofBits-toBits f x h
 
   pub pattern-finite : finiteFloat x ≡ finite (prec f - 1) (exponentBits f) (toBits f x)
   pattern-finite = sym (ap finiteFloat back) ∙ bits-finite f (toBits f x)

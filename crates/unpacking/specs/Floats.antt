@@ -3,14 +3,19 @@ use mathlib.Core.Path.{_≡_}
 use mathlib.Core.Bool.{Bool, true, false, cond}
 use Prim.Native.Nat.{ℕ}
 use lib.Dec.{eqb}
-use lib.IntN.{ℤ, pos}
+use lib.IntN.{ℤ, pos, negsuc}
 use lib.Ieee.{Float, nan, inf, fin, binary64, ofInt, mul, add, toBits}
+use Rattle.meaning.specs.Questions.{between}
 use Rattle.unpacking.specs.declared.Layer.{Layer}
 
 abbrev pub finiteFloat : Float → Bool
 finiteFloat nan = false
 finiteFloat (inf s) = false
 finiteFloat (fin s m e) = true
+
+-- "each E in -149 to 114"
+abbrev pub stepExponent : ℤ → Bool
+stepExponent e = between (negsuc 148) e (pos 114)
 
 -- 2^e
 abbrev pub twoTo : ℤ → Float

@@ -1,2 +1,3 @@
--- What the code computes by floats.
+-- What the code computes by floats; what it answers.
 pub mod Floats
+pub mod Answers
