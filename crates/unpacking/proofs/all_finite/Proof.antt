@@ -2,7 +2,6 @@
 use mathlib.Core.Path.{refl, sym, _∙_}
 use Prim.Native.Nat.{_-_, _≤_}
 use native.Mathlib.Omega.{arith}
-use borrow.Author.Needs.{needs}
 use borrow.Author.Tests.{not-true, not-false}
 use lib.ListN.{length}
 use lib.Ieee.{nan}
@@ -27,7 +26,7 @@ shared-slice-read-is-finite : tie.Need-shared-slice-read-is-finite Inv-loop μ-l
 shared-slice-read-is-finite c = omega arith
 
 is-finite-requires : tie.Need-is-finite-requires Inv-loop μ-loop
-is-finite-requires c κs = search needs
+is-finite-requires c κs = tt
 
 returns : tie.Need-returns Inv-loop μ-loop
 returns c =

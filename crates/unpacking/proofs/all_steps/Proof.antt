@@ -30,7 +30,7 @@ shared-slice-copy-out-exponent : tie.Need-shared-slice-copy-out-exponent Inv-loo
 shared-slice-copy-out-exponent c = omega arith
 
 is-step-requires : tie.Need-is-step-requires Inv-loop μ-loop
-is-step-requires c κs = search needs
+is-step-requires c κs = tt
 
 returns : tie.Need-returns Inv-loop μ-loop
 returns c =

@@ -1,6 +1,5 @@
 -- `ask_values` meets its contract: the tests' values, on each way.
 use mathlib.Core.Path.{sym, _∙_}
-use borrow.Author.Needs.{needs}
 use borrow.Author.Tests.{eq-eqb, ne-eqb, not-true, not-false}
 use Rattle.unpacking.specs.Answers.{refusalOf}
 use Rattle.unpacking.proofs.ask_values.Statement.{statement}
@@ -11,10 +10,10 @@ unfolding refusalOf
 returns c = simp (ne-eqb _ 0 (c .if1 .taken))
 
 layers-known-requires : tie.Need-layers-known-requires
-layers-known-requires c κs = search needs
+layers-known-requires c κs = tt
 
 is-nan-requires : tie.Need-is-nan-requires
-is-nan-requires c κs = search needs
+is-nan-requires c κs = tt
 
 returns-2 : tie.Need-returns-2
 unfolding refusalOf

@@ -29,10 +29,10 @@ room : (c : tie.In-loop Inv-loop μ-loop)
 room c = fits-in _ _ _ _ _ _ _ _ _ (c .before .loop .inv) (omega arith)
 
 ask-layers-requires : tie.Need-ask-layers-requires Inv-loop μ-loop
-ask-layers-requires c κs = search needs
+ask-layers-requires c κs = tt
 
 ask-values-requires : tie.Need-ask-values-requires Inv-loop μ-loop
-ask-values-requires c κs = search needs
+ask-values-requires c κs = tt
 
 returns : tie.Need-returns Inv-loop μ-loop
 unfolding answerOf
@@ -122,7 +122,7 @@ loop-again c =
     turn _ _ _ _ _ _ _ _ _ (at .loop .inv) (omega arith) small _ (single _) refl (c .before .before .before .before .before .step-of .ensures ∙ ap twoTo (toZ-ofZ fit)) _ (c .before .before .unpack-layer .ensures)
 
 same-length : tie.Need-same-length Inv-loop μ-loop
-same-length c = search needs
+same-length c = c .before .loop .inv .as-long
 
 returns-2 : tie.Need-returns-2 Inv-loop μ-loop
 unfolding answerOf

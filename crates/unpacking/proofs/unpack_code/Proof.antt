@@ -1,7 +1,6 @@
 -- `unpack_code` meets its contract: the value is no NaN, so that it has a pattern, and the code says which of the two is taken.
 use mathlib.Core.Path.{refl, sym, ap, subst}
 use native.Mathlib.Omega.{arith}
-use borrow.Author.Needs.{needs}
 use borrow.Author.Tests.{eq-eqb, ne-eqb}
 use lib.Ieee.{binary64, toBits}
 use Rattle.absolute.proofs.NotNan.{Number}
@@ -11,7 +10,7 @@ use Rattle.unpacking.proofs.unpack_code.Statement.{statement}
 use Rattle.unpacking.proofs.unpack_code.Tie as tie
 
 value-of-requires : tie.Need-value-of-requires
-value-of-requires c κs = search needs
+value-of-requires c κs = c .pre
 
 float-to-bits-double : tie.Need-float-to-bits-double
 float-to-bits-double c =

@@ -1,9 +1,8 @@
 -- `unpack_layer` meets its contract: the doubles before place i are written.
 use Prim.Native.Nat.{_-_}
 use native.Mathlib.Omega.{arith}
-use mathlib.Core.Path.{_≡_}
+use mathlib.Core.Path.{_≡_, refl, sym}
 use lib.ListN.{length, length-set}
-use borrow.Author.Needs.{needs}
 use Rattle.parts.proofs.Fills.{Filled, filled-turn, filled-end}
 use Rattle.unpacking.specs.Floats.{decoded}
 use Rattle.unpacking.proofs.unpack_layer.Statement.{statement}
@@ -16,7 +15,7 @@ abbrev μ-loop : tie.MeasureT-loop
 μ-loop codes l mark readings₀ i₀ readings i = length codes - i
 
 loop-holds : tie.Need-loop-holds Inv-loop μ-loop
-loop-holds c = search needs
+loop-holds c = (sym (c .before .before .pre .1), refl)
 
 mul-unpack-code : tie.Need-mul-unpack-code Inv-loop μ-loop
 mul-unpack-code c = omega arith
@@ -25,7 +24,7 @@ shared-slice-read-unpack-code : tie.Need-shared-slice-read-unpack-code Inv-loop 
 shared-slice-read-unpack-code c = omega arith
 
 unpack-code-requires : tie.Need-unpack-code-requires Inv-loop μ-loop
-unpack-code-requires c κs = search needs
+unpack-code-requires c κs = c .before .before .before .before .before .pre .0
 
 mul-readings : tie.Need-mul-readings Inv-loop μ-loop
 mul-readings c = omega arith
