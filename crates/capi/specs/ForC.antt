@@ -1,12 +1,12 @@
--- What a C caller gets of a trim's outcome. A refused call writes no counts.
+-- What a C caller gets of an outcome: 0, or the refusal's number. A refused call writes no counts.
 use mathlib.Core.List.{List, [], _∷_}
 use Prim.Native.Nat.{ℕ}
 use Rattle.meaning.specs.Methods.{Counts}
 use Rattle.meaning.specs.Questions.{Outcome, refused, accepted}
 
-unfoldable pub numberForC : Outcome Counts → ℕ
+unfoldable pub numberForC : {A : Type 0} → Outcome A → ℕ
 numberForC (refused n) = n
-numberForC (accepted c) = 0
+numberForC (accepted a) = 0
 
 unfoldable pub countsForC : Outcome Counts → List ℕ → List ℕ
 countsForC (refused n) before = before

@@ -1,8 +1,12 @@
 // The interface for C and every language that calls C. An array is a pointer and a length; a call answers 0, or the refusal's number, and then writes nothing.
 
 ghost use mathlib.Core.Path.{_≡_};
-ghost use Rattle.meaning.specs.Calls.{trimSingles, trimDoubles, loader};
+ghost use mathlib.Core.List.{map};
+ghost use lib.Ieee.{binary32, toBits};
+ghost use Rattle.meaning.specs.Calls.{trimSingles, trimDoubles, loader, unpack};
 ghost use Rattle.trim.specs.Answers.{answerOf};
+ghost use Rattle.packing.specs.Answers as packing;
+ghost use Rattle.unpacking.specs.Answers as unpacking;
 ghost use Rattle.capi.specs.ForC.{numberForC, countsForC};
 
 // An answer in C's form.
@@ -70,4 +74,58 @@ pub extern "C" fn megharutti_trim_single(
     ensures { λ r. ⌜ r ≡ loader method setting mark place reading ⌝ }
 {
     trim::trim_single(reading, method, setting, mark, place)
+}
+
+fn packed_number(answer: packing::Packed) -> u32
+    ensures { λ r. ⌜ r ≡ numberForC (packing.answerOf answer) ⌝ }
+{
+    match answer {
+        packing::Packed::Done => 0,
+        packing::Packed::Refused(n) => n,
+    }
+}
+
+// Packs an array of singles, layer by layer.
+#[no_mangle]
+pub extern "C" fn megharutti_pack(
+    readings: &[u32],
+    mark: u32,
+    length: usize,
+    codes: &mut [u16],
+    references: &mut [f32],
+    exponents: &mut [i32],
+) -> u32
+    ensures answer { λ r. ⌜ r ≡ numberForC (packing.packed mark length (now (readings .entry)) (now (codes .entry)) (now (references .entry)) (now (exponents .entry)) .answer) ⌝ }
+    ensures codes { λ _. ⌜ now (codes .exit) ≡ packing.packed mark length (now (readings .entry)) (now (codes .entry)) (now (references .entry)) (now (exponents .entry)) .codes ⌝ }
+    ensures references { λ _. ⌜ map (toBits binary32) (now (references .exit)) ≡ packing.packed mark length (now (readings .entry)) (now (codes .entry)) (now (references .entry)) (now (exponents .entry)) .references ⌝ }
+    ensures exponents { λ _. ⌜ now (exponents .exit) ≡ packing.packed mark length (now (readings .entry)) (now (codes .entry)) (now (references .entry)) (now (exponents .entry)) .exponents ⌝ }
+{
+    let answer = packing::pack(readings, mark, length, codes, references, exponents);
+    packed_number(answer)
+}
+
+fn unpacked_number(answer: unpacking::Unpacked) -> u32
+    ensures { λ r. ⌜ r ≡ numberForC (unpacking.answerOf answer) ⌝ }
+{
+    match answer {
+        unpacking::Unpacked::Done => 0,
+        unpacking::Unpacked::Refused(n) => n,
+    }
+}
+
+// Unpacks layers into an array of doubles.
+#[no_mangle]
+pub extern "C" fn megharutti_unpack(
+    codes: &[u16],
+    references: &[f32],
+    exponents: &[i32],
+    length: usize,
+    mark: u64,
+    readings: &mut [u64],
+) -> u32
+    ensures answer { λ r. ⌜ r ≡ numberForC (unpack mark length (now (codes .entry)) (map (toBits binary32) (now (references .entry))) (now (exponents .entry)) (now (readings .entry)) .answer) ⌝ }
+    ensures content { λ _. ⌜ now (readings .exit) ≡ unpack mark length (now (codes .entry)) (map (toBits binary32) (now (references .entry))) (now (exponents .entry)) (now (readings .entry)) .readings ⌝ }
+{
+    let answer = unpacking::unpack(codes, references, exponents, length, mark, readings);
+    unpacked_number(answer)
 }
