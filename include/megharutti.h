@@ -1,4 +1,4 @@
-/* Megharutti: trims false precision from IEEE 754 singles and doubles.
+/* Megharutti: trims false precision from IEEE 754 singles and doubles, and packs singles into layers of 16-bit codes.
  *
  * Every call below is proved to give, for every input, what document 01 of the association defines. What is proved and what is assumed of
  * the caller stands in docs/PROMISES.md.
@@ -15,11 +15,24 @@
  *   5 absolute      p, to the nearest multiple of 2^p; -149 to 127 (doubles: -1074 to 1023)
  *   6 digits        significant decimal digits, 1 to 7 (doubles: 1 to 15)
  *
- * Refusals: 1, the method is unknown; 2, its setting is out of range.
+ * A layer is a run of `length` singles. Packed, it is a reference R (its smallest value, a single), a step exponent E from -149 to 114, and
+ * a code for each reading: reading less R, in steps of 2^E, to the nearest. The code 65535 means missing. E is the least exponent with
+ * which 65534 steps hold the layer's span, so that a code stands for a value within half a step of its reading.
  *
- * An array is a pointer to its first reading, and how many there are. The caller sees to it that the pointer is not NULL, also where n is 0,
- * that it is aligned for its type, that n readings stand there, and that `counts` lies outside them. Nobody else may read or write them
- * during the call. No call keeps a pointer, allocates memory, or has state of its own: calls on different arrays may run at once.
+ * Refusals. The first question that is answered "no" gives its number, and then no array is written.
+ *   1  is the method known?
+ *   2  is its setting in range?
+ *   3  is `length` 1 to 65536?
+ *   4  is the number of readings (or codes) a whole multiple of `length`?
+ *   5  has each other array the length that follows?
+ *   6  is each reading finite or the mark?
+ *   7  is each reference finite, and each exponent -149 to 114?
+ *   8  is the double mark a NaN?
+ *
+ * An array is a pointer to its first element, and how many there are. The caller sees to it that the pointer is not NULL, also where there
+ * are none, that it is aligned for its type, that so many elements stand there, and that arrays lie apart from each other. Nobody else may
+ * write them during the call, or read those that the call writes. No call keeps a pointer, allocates memory, or has state of its own: calls
+ * on different arrays may run at once.
  */
 #ifndef MEGHARUTTI_H
 #define MEGHARUTTI_H
@@ -39,6 +52,16 @@ uint32_t megharutti_trim_doubles(uint64_t *readings, size_t n, uint32_t method, 
 /* Trims one single as megharutti_trim_singles would at that place of an array. Answers the pattern that is left, or 2^32 plus the refusal's
  * number. Only the parity of the place matters. */
 uint64_t megharutti_trim_single(uint32_t reading, uint32_t method, int32_t setting, uint32_t mark, uint64_t place);
+
+/* Packs n readings into layers of `length`. Answers 0 and writes n codes, and a reference and an exponent for each of the n / length layers;
+ * or answers the refusal's number, 3 to 6. The lengths that follow are n for the codes, and n / length for references and exponents. */
+uint32_t megharutti_pack(const uint32_t *readings, size_t n, uint32_t mark, size_t length, uint16_t *codes, size_t n_codes,
+                         float *references, size_t n_references, int32_t *exponents, size_t n_exponents);
+
+/* Unpacks n_codes codes into as many doubles: R plus code times 2^E, rounded once, to the nearest double. A missing code becomes the mark,
+ * bit for bit, which has to be a NaN. Answers 0, or the refusal's number, 3, 4, 5, 7 or 8. */
+uint32_t megharutti_unpack(const uint16_t *codes, size_t n_codes, const float *references, size_t n_references, const int32_t *exponents,
+                           size_t n_exponents, size_t length, uint64_t mark, uint64_t *readings, size_t n);
 
 #ifdef __cplusplus
 }

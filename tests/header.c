@@ -40,6 +40,40 @@ int main(void) {
     check("groomed at an odd place", megharutti_trim_single(pi, 2, 7, mark, 0xFFFFFFFFFFFFFFFF), 0x4049FFFF);
     check("a single refused", megharutti_trim_single(pi, 7, 0, mark, 0), 0x100000001);
 
+    /* two layers: 1.0, missing, 2.0; and one value, a zero that is -0 */
+    const uint32_t raw[6] = {0x3F800000, mark, 0x40000000, 0x80000000, 0x00000000, mark};
+    uint16_t codes[6] = {7, 7, 7, 7, 7, 7};
+    float references[2] = {5, 5};
+    int32_t exponents[2] = {5, 5};
+    check("length 0", megharutti_pack(raw, 6, mark, 0, codes, 6, references, 2, exponents, 2), 3);
+    check("no whole layers", megharutti_pack(raw, 6, mark, 4, codes, 6, references, 2, exponents, 2), 4);
+    check("a code too few", megharutti_pack(raw, 6, mark, 3, codes, 5, references, 2, exponents, 2), 5);
+    check("a reference too many", megharutti_pack(raw, 6, mark, 3, codes, 6, references, 3, exponents, 2), 5);
+    check("an infinity", megharutti_pack((const uint32_t[1]){0x7F800000}, 1, mark, 1, codes, 1, references, 1, exponents, 1), 6);
+    check("codes after refusals", codes[0], 7);
+    check("packed", megharutti_pack(raw, 6, mark, 3, codes, 6, references, 2, exponents, 2), 0);
+    check("code of the reference", codes[0], 0);
+    check("missing code", codes[1], 65535);
+    check("code of 2.0", codes[2], 32768);
+    check("code of -0", codes[3], 0);
+    check("code of a last missing reading", codes[5], 65535);
+    check("first reference", references[0] == 1.0f, 1);
+    check("exponent of a span of 1", (uint64_t)(exponents[0] + 149), 149 - 15);
+    check("exponent of one value", (uint64_t)(exponents[1] + 149), 0);
+
+    const uint64_t nan = 0x7FF00000000000AB;
+    uint64_t back[6] = {7, 7, 7, 7, 7, 7};
+    check("a mark that is no NaN", megharutti_unpack(codes, 6, references, 2, exponents, 2, 3, 0, back, 6), 8);
+    exponents[1] = 115;
+    check("exponent 115", megharutti_unpack(codes, 6, references, 2, exponents, 2, 3, nan, back, 6), 7);
+    exponents[1] = -149;
+    check("readings after refusals", back[0], 7);
+    check("unpacked", megharutti_unpack(codes, 6, references, 2, exponents, 2, 3, nan, back, 6), 0);
+    check("1.0 again", back[0], 0x3FF0000000000000);
+    check("the double mark", back[1], nan);
+    check("2.0 again", back[2], 0x4000000000000000);
+    check("zero again", back[3], 0);
+
     if (!failed)
         puts("header: all calls as expected");
     return failed;
