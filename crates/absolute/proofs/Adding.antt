@@ -94,7 +94,7 @@ module _ (f : Format) (q n : ℕ) (room : q + 2 ≤ 2 * emax f) (h : n < 2 ^ (pr
   sum-nearest : nearest (n + 2 ^ (prec f - 1) * 2 ^ q) (2 ^ q) ≡ nearest n (2 ^ q) + 2 ^ (prec f - 1)
   sum-nearest = rw (even-hidden f) (nearest-plus n (2 ^ (prec f - 2)) (2 ^ q) (pow-pos q))
 
-  sum-value : HasValue (add f x y) false ((nearest n (2 ^ q) + 2 ^ (prec f - 1)) * 2 ^ q) (2 ^ low f)
+  pub sum-value : HasValue (add f x y) false ((nearest n (2 ^ q) + 2 ^ (prec f - 1)) * 2 ^ q) (2 ^ low f)
   sum-value =
       rw (sym sum-nearest, add-values f n (2 ^ (prec f - 1) * 2 ^ q) (2 ^ low f) (pow-pos (low f)) x y vx vy)
       (round-binade f q (n + 2 ^ (prec f - 1) * 2 ^ q) (omega arith) (omega arith)

@@ -36,7 +36,7 @@ module _ (f : Format) (q C : ℕ) (room : q + 2 ≤ 2 * emax f) (is : C ≡ (q +
       let H = 2 ^ (prec f - 1) in
       ap (λ (x : ℕ). size (prec f - 1) x) (let e : C ≡ q * H + H = omega arith in e) ∙ size-at (prec f - 1) q H (inr (le-refl H)) (omega arith)
 
-  offset-value : HasValue (ofBits f C) false (2 ^ (prec f - 1) * 2 ^ q) (2 ^ low f)
+  pub offset-value : HasValue (ofBits f C) false (2 ^ (prec f - 1) * 2 ^ q) (2 ^ low f)
   offset-value = rw offset-size at (bits-size f C offset-finite)
 
   module _ (m : ℕ) (fin : m < infinity (prec f - 1) (exponentBits f)) where

@@ -98,7 +98,7 @@ fn spread_layer(readings: &[u32], mark: u32, a: f32, z: f32, codes: &mut [u16]) 
     let low = f32::to_bits(a);
     let high = f32::to_bits(z);
     let e = codes::least_step(low, high);
-    codes::codes_of(readings, mark, low, e, codes);
+    quick::codes_of(readings, mark, low, e, codes);
     Layer {
         reference: a,
         exponent: stored(e),

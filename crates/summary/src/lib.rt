@@ -48,7 +48,7 @@ pub fn choose(a: u32, b: u32, yes: u32, no: u32) -> u32
     if a == b { yes } else { no }
 }
 
-fn smaller(a: u32, b: u32) -> u32
+pub fn smaller(a: u32, b: u32) -> u32
     ensures { λ r. ⌜ r ≡ min a b ⌝ }
 {
     if a < b { a } else { b }

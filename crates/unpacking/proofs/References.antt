@@ -75,7 +75,7 @@ module _ (f : Format) (w : ℕ) where
   field-not-ones : finite F X w ≡ true → w % top f / hid f ≡ ones f → ⊥
   field-not-ones h z = true≢false (sym h ∙ finite-field ∙ ap not (eq-eqb (w % top f / hid f) (ones f) z))
 
-  bits-value : finite F X w ≡ true → HasValue (ofBits f w) (leb (top f) w) (size F (magnitude F X w)) (2 ^ low f)
+  pub bits-value : finite F X w ≡ true → HasValue (ofBits f w) (leb (top f) w) (size F (magnitude F X w)) (2 ^ low f)
   unfolding ofBits size exponentField fraction
   bits-value h =
       rw (magnitude-is, mod-mod-of-dvd (hid f) w (dvd-mul-right (hid f) (suc (ones f))))

@@ -1,0 +1,4 @@
+pub mod Doubles
+pub mod Codes
+pub mod Finest
+pub mod Numbers
