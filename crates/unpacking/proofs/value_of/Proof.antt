@@ -2,7 +2,6 @@
 use mathlib.Core.Path.{refl}
 use borrow.Author.Needs.{needs}
 use Rattle.unpacking.specs.Floats.{unpacked}
-use Rattle.absolute.proofs.NotNan.{Number}
 use Rattle.unpacking.proofs.Finite.{finite-number}
 use Rattle.unpacking.proofs.value_of.Statement.{statement}
 use Rattle.unpacking.proofs.value_of.Tie as tie
@@ -11,10 +10,7 @@ int-to-float-result : tie.Need-int-to-float-result
 int-to-float-result c = search needs
 
 float-to-float-result : tie.Need-float-to-float-result
-float-to-float-result c =
-    let s = c .before .before .before in
-    let n : Number (s .args .l .reference) = finite-number (s .args .l .reference) (s .pre .reference) in
-    search needs
+float-to-float-result c = search (needs, finite-number)
 
 returns : tie.Need-returns
 unfolding unpacked
