@@ -1,29 +1,32 @@
 -- One code: the pattern of the float formula is that of the double nearest to the code's exact meaning, R plus code times the step, with nothing else rounded;
--- an exact zero is +0. So each code unpacks to what document 01 says.
+-- it is finite, and an exact zero is +0. So each code unpacks to what document 01 says.
 use mathlib.Core.Path.{_≡_, refl, sym, ap, _∙_}
 use mathlib.Core.Logic.{_≢_}
 use mathlib.Core.Bool.{Bool, true, false, cond}
 use Prim.Native.Nat.{ℕ, suc, _+_, _-_, _*_, _^_, _≤_, _<_}
-use native.Mathlib.Nat.{lt-of-le-of-lt, lt-of-lt-of-le, mul-assoc, pow-suc}
+use native.Mathlib.Nat.{lt-of-le-of-lt, lt-of-lt-of-le, mul-assoc, pow-suc, zero-mul}
 use native.Mathlib.Decide.{decLt}
 use native.Mathlib.Omega.{arith}
 use borrow.Author.Tests.{leb-true, leb-false, le-leb, lt-leb, lt-ltb, le-ltb}
 use lib.Dec.{T, leb, ltb, eqb}
 use lib.IntN.{ℤ, pos, negsuc}
 use lib.Pow.{pow-pos, pow-add, pow-mono, shl-lt}
-use lib.Ieee.{binary32, binary64, round, toBits, fits}
+use lib.Ieee.{Float, binary32, binary64, round, toBits, fits}
 use lib.Ieee.Exact.{HasValue}
 use lib.Ieee.Scale.{round-same}
-use Rattle.meaning.specs.Readings.{size, sign, magnitude, pattern, leastExp, origin, position, infinity}
+use Rattle.meaning.specs.Readings.{spacingExp, spacing, size, sign, magnitude, pattern, infinity, magnitudeOf, leastExp, origin, position}
+use Rattle.meaning.specs.Methods.{nearest}
 use Rattle.meaning.specs.Layers.{missingCode, codeMeaning, nearestMagnitude, nearestDouble, unpackedCode}
 use Rattle.meaning.specs.Questions.{above, between}
 use Rattle.meaning.specs.Calls.{storedLayer}
-use Rattle.meaning.proofs.Patterns.{finite-below, position-plus, position-minus, size-below}
+use Rattle.meaning.proofs.Nearest.{nearest-multiple}
+use Rattle.meaning.proofs.Sizes.{size-small}
+use Rattle.meaning.proofs.Patterns.{magnitudeOf-size, finite-below, position-plus, position-minus, size-below}
 use Rattle.unpacking.specs.declared.Layer.{Layer}
-use Rattle.unpacking.specs.Floats.{finiteFloat, twoTo, unpacked, decoded}
-use Rattle.unpacking.proofs.Nearest.{nearest-bits, infinity-size}
+use Rattle.unpacking.specs.Floats.{finiteFloat, twoTo, unpacked, decoded, RoundedOnce}
+use Rattle.unpacking.proofs.Nearest.{nearest-finite, nearest-bits, infinity-size}
 use Rattle.unpacking.proofs.References.{pattern-finite, pattern-value}
-use Rattle.unpacking.proofs.Sums.{exponent-most, unpacked-plus, unpacked-minus}
+use Rattle.unpacking.proofs.Sums.{exponent-most, product-exact, unpacked-plus, unpacked-minus}
 
 sign-above : (s : Bool) (m : ℕ) → cond s (2 ^ 63) 0 + m ≡ pattern 52 11 (cond s 1 0) m
 unfolding pattern
@@ -38,27 +41,53 @@ sign-minus : (w : ℕ) → leb (2 ^ 31) w ≡ true → sign 23 8 w ≢ 0
 unfolding sign
 sign-minus w e z = omega (arith, leb-true (2 ^ 31) w e)
 
--- n least spacings of singles, rounded to a double
-rounded : (s : Bool) (n : ℕ) → n < 2 ^ 280 → toBits binary64 (round binary64 s n (2 ^ 149)) ≡ pattern 52 11 (cond s 1 0) (nearestMagnitude (n * 2 ^ 925))
+-- n least spacings of singles are so many of doubles
+widened : (s : Bool) (n : ℕ) → round binary64 s n (2 ^ 149) ≡ round binary64 s (n * 2 ^ 925) (2 ^ 1074)
+widened s n =
+    round-same binary64 s n (2 ^ 149) (n * 2 ^ 925) (2 ^ 1074) (pow-pos 149) (pow-pos 1074) (ap (λ (x : ℕ). n * x) (pow-add 2 925 149) ∙ sym (mul-assoc n (2 ^ 925) (2 ^ 149)))
+
+-- rounded to a double, they give a finite one and its pattern
+rounded-finite : (s : Bool) (n : ℕ) → n < 2 ^ 280 → finiteFloat (round binary64 s n (2 ^ 149)) ≡ true
+rounded-finite s n h = ap finiteFloat (widened s n) ∙ nearest-finite binary64 (n * 2 ^ 925) 1205 (omega arith) (shl-lt 280 925 h) s
+
+rounded-bits : (s : Bool) (n : ℕ) → n < 2 ^ 280 → toBits binary64 (round binary64 s n (2 ^ 149)) ≡ pattern 52 11 (cond s 1 0) (nearestMagnitude (n * 2 ^ 925))
 unfolding nearestMagnitude
-rounded s n h =
-    ap (toBits binary64)
-    (round-same binary64 s n (2 ^ 149) (n * 2 ^ 925) (2 ^ 1074) (pow-pos 149) (pow-pos 1074) (ap (λ (x : ℕ). n * x) (pow-add 2 925 149) ∙ sym (mul-assoc n (2 ^ 925) (2 ^ 149))))
-    ∙ nearest-bits binary64 (n * 2 ^ 925) 1205 (omega arith) (shl-lt 280 925 h) s
-    ∙ sign-above s _
+rounded-bits s n h = ap (toBits binary64) (widened s n) ∙ nearest-bits binary64 (n * 2 ^ 925) 1205 (omega arith) (shl-lt 280 925 h) s ∙ sign-above s _
 
--- the double at a position of singles, from zero on and below zero
-from-zero : (p n : ℕ) → p ≡ origin 23 8 + n → n < 2 ^ 280 → toBits binary64 (round binary64 false n (2 ^ 149)) ≡ nearestDouble p
+-- x is the double nearest to a position of singles, and finite
+abbrev Lands : Float → ℕ → Type 0
+Lands x p = (toBits binary64 x ≡ nearestDouble p) × (finiteFloat x ≡ true)
+
+-- from zero on, and below zero
+from-zero : (x : Float) (p n : ℕ) → x ≡ round binary64 false n (2 ^ 149) → p ≡ origin 23 8 + n → n < 2 ^ 280 → Lands x p
 unfolding nearestDouble leastExp
-from-zero p n e h =
+from-zero x p n r e h =
     let d : p - origin 23 8 ≡ n = omega arith in
-    rounded false n h ∙ rw (le-leb (origin 23 8) p (omega arith), d) refl
+    rw r (rounded-bits false n h ∙ rw (le-leb (origin 23 8) p (omega arith), d) refl, rounded-finite false n h)
 
-below-zero : (p n : ℕ) → p + n ≡ origin 23 8 → 0 < n → n < 2 ^ 280 → toBits binary64 (round binary64 true n (2 ^ 149)) ≡ nearestDouble p
+below-zero : (x : Float) (p n : ℕ) → x ≡ round binary64 true n (2 ^ 149) → p + n ≡ origin 23 8 → 0 < n → n < 2 ^ 280 → Lands x p
 unfolding nearestDouble leastExp
-below-zero p n e k h =
+below-zero x p n r e k h =
     let d : origin 23 8 - p ≡ n = omega arith in
-    rounded true n h ∙ rw (lt-leb (origin 23 8) p (omega arith), d) refl
+    rw r (rounded-bits true n h ∙ rw (lt-leb (origin 23 8) p (omega arith), d) refl, rounded-finite true n h)
+
+finite-zero : 0 < infinity 52 11
+unfolding infinity
+finite-zero = omega arith
+
+magnitude-zero : nearestMagnitude 0 ≡ 0
+unfolding nearestMagnitude spacing
+magnitude-zero =
+    let g = 2 ^ spacingExp 52 (magnitudeOf 52 11 0) in
+    ap (λ (n : ℕ). magnitudeOf 52 11 (n * g)) (ap (λ (n : ℕ). nearest n g) (sym (zero-mul g)) ∙ nearest-multiple 0 g (pow-pos (spacingExp 52 (magnitudeOf 52 11 0))))
+    ∙ ap (magnitudeOf 52 11) (zero-mul g ∙ sym (size-small 52 0 (pow-pos 52)))
+    ∙ magnitudeOf-size 52 11 0 finite-zero
+
+nearest-zero : nearestDouble (origin 23 8) ≡ 0
+unfolding nearestDouble leastExp pattern
+nearest-zero =
+    let z : origin 23 8 - origin 23 8 ≡ 0 = omega arith in
+    rw (le-leb (origin 23 8) (origin 23 8) (omega arith), z, zero-mul, magnitude-zero) refl
 
 both-small : (k a b : ℕ) → a < 2 ^ k → b < 2 ^ k → a + b < 2 ^ suc k
 both-small k a b h l = rw (pow-suc 2 k) (omega arith)
@@ -91,22 +120,31 @@ module _ (l : Layer) (e : ℤ) (fit : T (fits binary32 (l .reference))) (fin : f
   all-small : (n : ℕ) → n ≤ a + b → n < 2 ^ 280
   all-small n k = lt-of-le-of-lt k (both-small 279 a b a-small b-small)
 
-  pub code-nearest : toBits binary64 (unpacked l code) ≡ nearestDouble (codeMeaning 23 8 (storedLayer w e) code)
-  unfolding codeMeaning storedLayer
-  code-nearest = go (leb (2 ^ 31) w) refl (pattern-value binary32 (l .reference) fit fin) (decLt b a)
+  lands : Lands (unpacked l code) (position 23 8 w + b)
+  lands = go (leb (2 ^ 31) w) refl (pattern-value binary32 (l .reference) fit fin) (decLt b a)
     where
-      go : (s : Bool) → leb (2 ^ 31) w ≡ s → HasValue (l .reference) s a (2 ^ 149) → Dec (b < a) → toBits binary64 (unpacked l code) ≡ nearestDouble (position 23 8 w + b)
+      go : (s : Bool) → leb (2 ^ 31) w ≡ s → HasValue (l .reference) s a (2 ^ 149) → Dec (b < a) → Lands (unpacked l code) (position 23 8 w + b)
       go false z v d =
-          ap (toBits binary64) (unpacked-plus l code e a h t q v)
-          ∙ from-zero (position 23 8 w + b) (b + a) (rw (position-plus 23 8 w (sign-plus w z)) (omega arith)) (all-small (b + a) (omega arith))
+          from-zero _ (position 23 8 w + b) (b + a) (unpacked-plus l code e a h t q v) (rw (position-plus 23 8 w (sign-plus w z)) (omega arith)) (all-small (b + a) (omega arith))
       go true z v (yes o) =
-          ap (toBits binary64) (unpacked-minus l code e a h t q v ∙ rw (lt-ltb b a o) refl)
-          ∙ below-zero (position 23 8 w + b) (a - b) (rw (position-minus 23 8 w (sign-minus w z)) (omega (arith, a-below))) (omega arith) (all-small (a - b) (omega arith))
+          below-zero _ (position 23 8 w + b) (a - b) (unpacked-minus l code e a h t q v ∙ rw (lt-ltb b a o) refl)
+          (rw (position-minus 23 8 w (sign-minus w z)) (omega (arith, a-below))) (omega arith) (all-small (a - b) (omega arith))
       go true z v (no o) =
           let k : a ≤ b = omega arith in
-          ap (toBits binary64) (unpacked-minus l code e a h t q v ∙ rw (le-ltb b a k) refl)
-          ∙ from-zero (position 23 8 w + b) (b - a) (rw (position-minus 23 8 w (sign-minus w z)) (omega (arith, a-below))) (all-small (b - a) (omega arith))
+          from-zero _ (position 23 8 w + b) (b - a) (unpacked-minus l code e a h t q v ∙ rw (le-ltb b a k) refl)
+          (rw (position-minus 23 8 w (sign-minus w z)) (omega (arith, a-below))) (all-small (b - a) (omega arith))
+
+  -- "so that only the addition rounds"
+  pub once : RoundedOnce l e code
+  unfolding codeMeaning storedLayer
+  once =
+      record {
+        product = rw q (product-exact code e h t);
+        nearest = lands .0;
+        finite = lands .1;
+        zero = λ z. lands .0 ∙ ap nearestDouble z ∙ nearest-zero;
+      }
 
   pub code-decoded : (mark : ℕ) → decoded l mark code ≡ unpackedCode 16 mark (storedLayer w e) code
   unfolding decoded unpackedCode missingCode
-  code-decoded mark = ap (λ (x : ℕ). cond (eqb code 65535) mark x) code-nearest
+  code-decoded mark = ap (λ (x : ℕ). cond (eqb code 65535) mark x) (once .nearest)

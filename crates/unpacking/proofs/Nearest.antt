@@ -2,7 +2,7 @@
 -- Rounding drops as many binary digits of N as the exponent of the spacing at N says, and a multiple of that spacing in N's closed binade is a magnitude's size.
 use mathlib.Core.Path.{_≡_, refl, sym, ap, _∙_}
 use mathlib.Core.Logic.{_⊎_, inl, inr}
-use mathlib.Core.Bool.{Bool, cond}
+use mathlib.Core.Bool.{Bool, true, cond}
 use Prim.Native.Nat.{ℕ, suc, _+_, _-_, _*_, _^_, _≤_, _<_}
 use native.Mathlib.Nat.{le-refl, le-trans, lt-of-le-of-lt, lt-of-lt-of-le, lt-of-not-le, mul-le-mul-right, mul-lt-mul-of-pos-right, not-le-of-lt}
 use native.Mathlib.Omega.{arith}
@@ -20,6 +20,8 @@ use Rattle.meaning.proofs.Patterns.{magnitudeOf-size, magnitudeOf-floor}
 use Rattle.meaning.proofs.Sizes.{Form, form, size-at, size-form}
 use Rattle.absolute.proofs.Adding.{grid-is}
 use Rattle.absolute.proofs.Values.{exponentBits, infinity-is, signed-bits}
+use Rattle.unpacking.specs.Floats.{finiteFloat}
+use Rattle.unpacking.proofs.Finite.{value-finite}
 
 -- a rounded value with its sign
 round-value : (f : Format) (s : Bool) (a c : ℕ) → grid f a c < overflow f → HasValue (round f s a c) s (grid f a c) (2 ^ low f)
@@ -113,8 +115,14 @@ module _ (f : Format) (N b : ℕ) (room : b + 2 ≤ prec f + 2 * emax f) (h : N 
       rw (grid-is f c N drops)
       (lt-of-le-of-lt (mul-le-mul-right (2 ^ c) y-most) (rw (sym (hidden-twice f c)) (pow-lt (omega (arith, drops, length-le N b h, two f, reach f)))))
 
+  nearest-value : (s : Bool) → HasValue (round f s N (2 ^ low f)) s (size F v) (2 ^ low f)
+  nearest-value s = rw (v-size, sym (grid-is f c N drops)) (round-value f s N (2 ^ low f) no-overflow)
+
+  pub nearest-finite : (s : Bool) → finiteFloat (round f s N (2 ^ low f)) ≡ true
+  nearest-finite s = value-finite (round f s N (2 ^ low f)) s (size F v) (2 ^ low f) (nearest-value s)
+
   pub nearest-bits : (s : Bool) → toBits f (round f s N (2 ^ low f)) ≡ cond s (top f) 0 + magnitudeOf F X (nearest N (spacing F m) * spacing F m)
   unfolding spacing
   nearest-bits s =
-      signed-bits f v v-finite (round f s N (2 ^ low f)) s (rw (v-size, sym (grid-is f c N drops)) (round-value f s N (2 ^ low f) no-overflow))
+      signed-bits f v v-finite (round f s N (2 ^ low f)) s (nearest-value s)
       ∙ ap (λ (x : ℕ). cond s (top f) 0 + x) (sym (magnitudeOf-size F X v v-finite) ∙ ap (λ (n : ℕ). magnitudeOf F X n) v-size)

@@ -93,7 +93,7 @@ exact c E h k =
     ∙ ap (λ (z : ℕ). c * z) (sym (pow-add 2 E 1074) ∙ ap (λ (n : ℕ). 2 ^ n) {x = E + 1074} {y = 925 + E + 149} (omega arith) ∙ pow-add 2 (925 + E) 149)
     ∙ sym (mul-assoc c (2 ^ (925 + E)) (2 ^ 149)))
 
-product-exact : (code : ℕ) (e : ℤ) → code < 2 ^ 16 → between (negsuc 148) e (pos 114) ≡ true
+pub product-exact : (code : ℕ) (e : ℤ) → code < 2 ^ 16 → between (negsuc 148) e (pos 114) ≡ true
     → HasValue (mul binary64 (ofInt binary64 (pos code)) (twoTo e)) false (code * 2 ^ above 149 e) (2 ^ 149)
 unfolding ofInt
 product-exact code e h t =

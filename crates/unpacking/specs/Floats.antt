@@ -1,11 +1,15 @@
 -- One code unpacked by floats: the code as a double, times the step, plus the reference.
 use mathlib.Core.Path.{_≡_}
 use mathlib.Core.Bool.{Bool, true, false, cond}
-use Prim.Native.Nat.{ℕ}
+use Prim.Native.Nat.{ℕ, _*_, _^_}
 use lib.Dec.{eqb}
 use lib.IntN.{ℤ, pos, negsuc}
-use lib.Ieee.{Float, nan, inf, fin, binary64, ofInt, mul, add, toBits}
-use Rattle.meaning.specs.Questions.{between}
+use lib.Ieee.{Float, nan, inf, fin, binary32, binary64, ofInt, mul, add, toBits}
+use lib.Ieee.Exact.{HasValue}
+use Rattle.meaning.specs.Readings.{origin}
+use Rattle.meaning.specs.Layers.{codeMeaning, nearestDouble}
+use Rattle.meaning.specs.Questions.{above, between}
+use Rattle.meaning.specs.Calls.{storedLayer}
 use Rattle.unpacking.specs.declared.Layer.{Layer}
 
 abbrev pub finiteFloat : Float → Bool
@@ -32,3 +36,12 @@ unpacked l code = add binary64 (mul binary64 (ofInt binary64 (pos code)) (l .ste
 -- its pattern, or the mark for a missing code
 unfoldable pub decoded : Layer → ℕ → ℕ → ℕ
 decoded l mark code = cond (eqb code 65535) mark (toBits binary64 (unpacked l code))
+
+-- "so that only the addition rounds": of a code in a layer whose step is 2^e
+pub record RoundedOnce (l : Layer) (e : ℤ) (code : ℕ) : Type 0 where
+  -- the product is exact; sizes are counted in least spacings of singles
+  pub product : HasValue (mul binary64 (ofInt binary64 (pos code)) (l .step)) false (code * 2 ^ above 149 e) (2 ^ 149)
+  -- the sum is the double nearest to the exact meaning of the code, finite, and +0 where that is zero
+  pub nearest : toBits binary64 (unpacked l code) ≡ nearestDouble (codeMeaning 23 8 (storedLayer (toBits binary32 (l .reference)) e) code)
+  pub finite : finiteFloat (unpacked l code) ≡ true
+  pub zero : codeMeaning 23 8 (storedLayer (toBits binary32 (l .reference)) e) code ≡ origin 23 8 → toBits binary64 (unpacked l code) ≡ 0
