@@ -20,7 +20,9 @@ use Rattle.unpacking.specs.Floats.{finiteFloat, Finite, unpacked}
 
 zero-sum : (s : Bool) (a c : ℕ) → 0 < c → HasValue (sum binary32 s a (not s) a c) false 0 c
 unfolding sum
-zero-sum s a c h = subst (λ (x : Float). HasValue x false 0 c) (sym (is s)) (round-exact binary32 false 0 c 0 0 h (pow-pos 24) (pow-pos 277) (zero-mul (2 ^ 149) ∙ sym (zero-mul c)))
+zero-sum s a c h =
+    subst (λ (x : Float). HasValue x false 0 c) (sym (is s))
+    (round-exact binary32 false 0 c 0 0 h (pow-pos 24) (pow-pos 277) (zero-mul (2 ^ 149) ∙ sym (zero-mul c)))
   where
     none : a - a ≡ 0
     none = omega arith
@@ -39,7 +41,8 @@ unfolding eq
 eq-zero nan c p h = absurd h
 eq-zero (inf s) c p h = absurd h
 eq-zero (fin s m e) c p h =
-    let z : m * up e * 1 ≡ 0 * 1 * down e = mul-one (m * up e) ∙ eq-of-mul-eq-mul-right c p (m * up e) 0 (h .1 ∙ zero-mul (down e) ∙ sym (zero-mul c)) ∙ sym (zero-mul (down e)) in
+    let y : m * up e ≡ 0 = eq-of-mul-eq-mul-right c p (m * up e) 0 (h .1 ∙ zero-mul (down e) ∙ sym (zero-mul c)) in
+    let z : m * up e * 1 ≡ 0 * 1 * down e = mul-one (m * up e) ∙ y ∙ sym (zero-mul (down e)) in
     rw (h .0, eq-eqb (m * up e * 1) (0 * 1 * down e) z) refl
 
 pub difference : (x : Float) → eq (sub binary32 x x) (fin false 0 (pos 0)) ≡ finiteFloat x

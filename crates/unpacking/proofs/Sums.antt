@@ -97,8 +97,10 @@ pub product-exact : (code : ℕ) (e : ℤ) → code < 2 ^ 16 → between (negsuc
     → HasValue (mul binary64 (ofInt binary64 (pos code)) (twoTo e)) false (code * 2 ^ above 149 e) (2 ^ 149)
 unfolding ofInt
 product-exact code e h t =
+    let x = round binary64 false code 1 in
+    let v = round-whole binary64 false code (omega arith) in
     rw (
-      mul-values binary64 false false code 1 (2 ^ above 149 e) (2 ^ 149) (pow-pos 0) (pow-pos 149) (round binary64 false code 1) (twoTo e) (round-whole binary64 false code (omega arith)) (step-value e t),
+      mul-values binary64 false false code 1 (2 ^ above 149 e) (2 ^ 149) (pow-pos 0) (pow-pos 149) x (twoTo e) v (step-value e t),
       one-mul (2 ^ 149),
     )
     (exact code (above 149 e) h (exponent-most e t))

@@ -153,8 +153,10 @@ pub fn unpack(
     mark: u64,
     readings: &mut [u64],
 ) -> Unpacked
-    ensures answer { λ r. ⌜ answerOf r ≡ unpack mark length (now (codes .entry)) (map (toBits binary32) (now (references .entry))) (now (exponents .entry)) (now (readings .entry)) .answer ⌝ }
-    ensures content { λ _. ⌜ now (readings .exit) ≡ unpack mark length (now (codes .entry)) (map (toBits binary32) (now (references .entry))) (now (exponents .entry)) (now (readings .entry)) .readings ⌝ }
+    ensures answer { λ r. ⌜ answerOf r
+        ≡ unpack mark length (now (codes .entry)) (map (toBits binary32) (now (references .entry))) (now (exponents .entry)) (now (readings .entry)) .answer ⌝ }
+    ensures content { λ _. ⌜ now (readings .exit)
+        ≡ unpack mark length (now (codes .entry)) (map (toBits binary32) (now (references .entry))) (now (exponents .entry)) (now (readings .entry)) .readings ⌝ }
 {
     let lengths = asking::ask_layers(
         length,

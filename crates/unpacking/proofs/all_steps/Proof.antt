@@ -37,7 +37,8 @@ returns c =
     let at = c .before .before .before .before in
     let z = getD (at .before .args .exponents .now) (at .loop .i) (pos 0) in
     let fit : SFits w32 z = search needs in
-    left-fails stepExponent (pos 0) _ (at .loop .i) (omega arith) (sym (c .before .is-step .ensures ∙ ap stepExponent (toZ-ofZ fit)) ∙ not-true _ (c .if1 .taken)) (at .loop .inv .1)
+    let e = sym (c .before .is-step .ensures ∙ ap stepExponent (toZ-ofZ fit)) ∙ not-true _ (c .if1 .taken) in
+    left-fails stepExponent (pos 0) _ (at .loop .i) (omega arith) e (at .loop .inv .1)
 
 add-i : tie.Need-add-i Inv-loop μ-loop
 add-i c = omega arith

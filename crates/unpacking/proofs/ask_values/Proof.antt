@@ -23,13 +23,15 @@ returns-3 : tie.Need-returns-3
 unfolding refusalOf
 returns-3 c =
     let s = c .before .before .before in
-    simp (eq-eqb _ 0 (s .before .if1 .left), sym (s .layers-known .ensures) ∙ not-false _ (c .before .if2 .left), sym (c .before .before .is-nan .ensures) ∙ not-true _ (c .if3 .taken))
+    let k = sym (s .layers-known .ensures) ∙ not-false _ (c .before .if2 .left) in
+    simp (eq-eqb _ 0 (s .before .if1 .left), k, sym (c .before .before .is-nan .ensures) ∙ not-true _ (c .if3 .taken))
 
 returns-4 : tie.Need-returns-4
 unfolding refusalOf
 returns-4 c =
     let s = c .before .before .before in
-    simp (eq-eqb _ 0 (s .before .if1 .left), sym (s .layers-known .ensures) ∙ not-false _ (c .before .if2 .left), sym (c .before .before .is-nan .ensures) ∙ not-false _ (c .if3 .left))
+    let k = sym (s .layers-known .ensures) ∙ not-false _ (c .before .if2 .left) in
+    simp (eq-eqb _ 0 (s .before .if1 .left), k, sym (c .before .before .is-nan .ensures) ∙ not-false _ (c .if3 .left))
 
 pub ask-values-spec : {M : Type 1} → statement M
 ask-values-spec =

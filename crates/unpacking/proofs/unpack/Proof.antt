@@ -119,7 +119,8 @@ loop-again c =
     let fit : SFits w32 z = search needs in
     let single : Singles (s .args .references .now) = at .before .before .before .before .before .shared-slice-known2 .given in
     let small : Below 65536 (s .args .codes .now) = λ k. at .before .before .before .before .before .before .shared-slice-known .given k .fits in
-    turn _ _ _ _ _ _ _ _ _ (at .loop .inv) (omega arith) small _ (single _) refl (c .before .before .before .before .before .step-of .ensures ∙ ap twoTo (toZ-ofZ fit)) _ (c .before .before .unpack-layer .ensures)
+    let r = c .before .before in
+    turn _ _ _ _ _ _ _ _ _ (at .loop .inv) (omega arith) small _ (single _) refl (r .before .before .before .step-of .ensures ∙ ap twoTo (toZ-ofZ fit)) _ (r .unpack-layer .ensures)
 
 same-length : tie.Need-same-length Inv-loop μ-loop
 same-length c = c .before .loop .inv .as-long
