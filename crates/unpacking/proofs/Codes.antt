@@ -87,7 +87,7 @@ nearest-zero : nearestDouble (origin 23 8) ≡ 0
 unfolding nearestDouble leastExp pattern
 nearest-zero =
     let z : origin 23 8 - origin 23 8 ≡ 0 = omega arith in
-    rw (le-leb (origin 23 8) (origin 23 8) (omega arith), z, zero-mul, magnitude-zero) refl
+    rw (le-leb (origin 23 8) (origin 23 8) (omega arith), z) (simp (zero-mul, magnitude-zero))
 
 both-small : (k a b : ℕ) → a < 2 ^ k → b < 2 ^ k → a + b < 2 ^ suc k
 both-small k a b h l = rw (pow-suc 2 k) (omega arith)
