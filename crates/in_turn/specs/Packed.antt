@@ -1,0 +1,27 @@
+-- Demand 3's packing about the arrays of a call: the readings before a list of trims and after it, and what the packing that follows answers and leaves.
+use mathlib.Core.Path.{_≡_}
+use mathlib.Core.Bool.{true}
+use mathlib.Core.List.{List}
+use Prim.Native.Nat.{ℕ, _*_, _/_, _<_}
+use lib.IntN.{ℤ, pos}
+use lib.ListN.{length, getD, take, drop}
+use Rattle.meaning.specs.Layers.{summary, span}
+use Rattle.meaning.specs.Questions.{Outcome, accepted}
+use Rattle.meaning.specs.Calls.{Call, acceptedCalls, storedLayer}
+use Rattle.meaning.specs.Claim.{oneKind, Coded, LeastHolding}
+
+-- The clauses of PackClaim, which speaks of inTurn and pack, about arrays; the layers are those of the readings as the list left them.
+pub record CodesPromised (cs : List Call) (mark : ℕ) (before after : List ℕ) (L : ℕ) (codes references : List ℕ) (exponents : List ℤ) : Type 0 where
+  pub codes-long : length codes ≡ length before
+  pub references-long : length references ≡ length before / L
+  pub exponents-long : length exponents ≡ length before / L
+  -- place i is in layer i / L
+  pub each-code : (i : ℕ) → i < length before
+      → Coded mark (acceptedCalls 23 8 cs) (getD before i 0) (storedLayer (getD references (i / L) 0) (getD exponents (i / L) (pos 0))) (getD codes i 0)
+  pub each-layer : (j : ℕ) → j < length before / L
+      → LeastHolding (span 23 8 (summary 23 8 mark (take L (drop (j * L) after)))) (getD exponents j (pos 0))
+
+-- "lists with at least one accepted call, whose accepted calls are only roundings .. or only shaves, sets, grooms and halfshaves .. and the packing is accepted"
+abbrev pub PackPromised : List Call → ℕ → List ℕ → List ℕ → ℕ → Outcome (Unit {0}) → List ℕ → List ℕ → List ℤ → Type 0
+PackPromised cs mark before after L answer codes references exponents =
+    0 < length (acceptedCalls 23 8 cs) → oneKind (acceptedCalls 23 8 cs) ≡ true → answer ≡ accepted tt → CodesPromised cs mark before after L codes references exponents
