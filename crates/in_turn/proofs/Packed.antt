@@ -11,9 +11,8 @@ use Rattle.in_turn.specs.Packed.{PackPromised}
 
 module _ {cs : List Call} {mark L : ℕ} {before after : List ℕ} (codes₀ references₀ : List ℕ) (exponents₀ : List ℤ) where
   pub pack-promised : {answer : Outcome (Unit {0})} {codes references : List ℕ} {exponents : List ℤ} → after ≡ inTurn 23 8 cs mark before
-      → answer ≡ pack mark L (inTurn 23 8 cs mark before) codes₀ references₀ exponents₀ .answer → codes ≡ pack mark L (inTurn 23 8 cs mark before) codes₀ references₀ exponents₀ .codes
-      → references ≡ pack mark L (inTurn 23 8 cs mark before) codes₀ references₀ exponents₀ .references
-      → exponents ≡ pack mark L (inTurn 23 8 cs mark before) codes₀ references₀ exponents₀ .exponents → PackPromised cs mark before after L answer codes references exponents
+      → let p = pack mark L (inTurn 23 8 cs mark before) codes₀ references₀ exponents₀ in
+      answer ≡ p .answer → codes ≡ p .codes → references ≡ p .references → exponents ≡ p .exponents → PackPromised cs mark before after L answer codes references exponents
   pack-promised e a c r x some kind done =
       let p = demand-3 .packing cs mark before some kind L codes₀ references₀ exponents₀ (sym a ∙ done) in
       record {
