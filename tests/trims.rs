@@ -2,7 +2,8 @@
 //!
 //! The model knows nothing of the library. Where the machine's own floats can give the same answer exactly, they are asked too,
 //! so that a slip in the model doesn't pass for a slip in the library. Every run makes the same comparisons.
-use std::cmp::Ordering;
+mod nat;
+use nat::{goes_up, Nat};
 use std::process::exit;
 
 extern "C" {
@@ -10,52 +11,6 @@ extern "C" {
     fn megharutti_trim_singles(readings: *mut u32, n: usize, method: u32, setting: i32, mark: u32, counts: *mut u64) -> u32;
     fn megharutti_trim_doubles(readings: *mut u64, n: usize, method: u32, setting: i32, mark: u64, counts: *mut u64) -> u32;
 }
-
-/// A natural number of any size: least limb first, and no zero limb at the top, so that equal numbers have equal limbs.
-#[derive(PartialEq)]
-struct Nat(Vec<u32>);
-
-impl Nat {
-    fn new(limbs: impl Iterator<Item = u32>) -> Nat {
-        let mut limbs: Vec<u32> = limbs.collect();
-        while limbs.last() == Some(&0) { limbs.pop(); }
-        Nat(limbs)
-    }
-    fn of(v: u64) -> Nat { Nat::new([v as u32, (v >> 32) as u32].into_iter()) }
-    fn limb(&self, i: usize) -> u64 { *self.0.get(i).unwrap_or(&0) as u64 }
-    fn low(&self) -> u64 { self.limb(0) | self.limb(1) << 32 }
-    fn bits(&self) -> u32 { self.0.last().map_or(0, |top| 32 * self.0.len() as u32 - top.leading_zeros()) }
-    fn shl(&self, n: u32) -> Nat {
-        let under = |i: usize| if i == 0 { 0 } else { self.limb(i - 1) };
-        let limbs = (0..=self.0.len()).map(|i| ((self.limb(i) << 32 | under(i)) << (n % 32) >> 32) as u32);
-        Nat::new((0..n / 32).map(|_| 0).chain(limbs))
-    }
-    fn shr(&self, n: u32) -> Nat {
-        Nat::new((n as usize / 32..self.0.len()).map(|i| ((self.limb(i + 1) << 32 | self.limb(i)) >> (n % 32)) as u32))
-    }
-    fn times(&self, small: u64) -> Nat { self.times_add(small, &Nat(vec![])) }
-    fn add(&self, other: &Nat) -> Nat { self.times_add(1, other) }
-    fn times_add(&self, small: u64, other: &Nat) -> Nat {
-        let (mut sum, limbs) = (0, 0..=self.0.len().max(other.0.len()));
-        Nat::new(limbs.map(|i| { sum = self.limb(i) * small + other.limb(i) + (sum >> 32); sum as u32 }))
-    }
-    /// The quotient, rounded up.
-    fn over(&self, small: u64) -> Nat {
-        let (mut out, mut rest) = (self.add(&Nat::of(small - 1)), 0);
-        for limb in out.0.iter_mut().rev() {
-            rest = rest << 32 | *limb as u64;
-            *limb = (rest / small) as u32;
-            rest %= small;
-        }
-        Nat::new(out.0.into_iter())
-    }
-    fn cmp(&self, other: &Nat) -> Ordering {
-        self.0.len().cmp(&other.0.len()).then_with(|| self.0.iter().rev().cmp(other.0.iter().rev()))
-    }
-}
-
-/// The nearer of two neighbours on a grid, by how a reading lies to their middle; a tie goes to the even one.
-fn goes_up(to_middle: Ordering, below_is_odd: bool) -> bool { to_middle.is_gt() || to_middle.is_eq() && below_is_odd }
 
 /// A float form with f fraction bits and e exponent bits. A size is a Nat that counts least spacings; the least spacing is 2^-deep.
 struct Form {
