@@ -5,3 +5,4 @@ pub mod Table
 pub mod Powers
 pub mod Singles
 pub mod Widths
+pub mod Fields

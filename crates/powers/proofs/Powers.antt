@@ -13,6 +13,7 @@ use Rattle.meaning.specs.Readings.{exponentField, fraction, size, leastExp}
 use Rattle.meaning.specs.Methods.{decade}
 use Rattle.meaning.proofs.Sizes.{size-le}
 use Rattle.powers.specs.Table.{powers}
+use Rattle.powers.specs.Fields.{stepExponent}
 use Rattle.powers.proofs.Digit.{decade-is}
 use Rattle.powers.proofs.Table.{every, at}
 
@@ -26,10 +27,6 @@ scaled p = size 52 p * 10 ^ leastExp 52 11
 -- the place that the code begins with, from an exponent field
 abbrev pub estimate : ℕ → ℕ
 estimate e = (e * 77 + 4100) / 2 ^ 8
-
--- the exponent of a step, as the code computes it
-abbrev pub exponent : ℕ → ℕ
-exponent i = (i * 108853 + 33340) / 2 ^ 15
 
 -- p is the smallest that is not below the power
 abbrev reach : ℕ → ℕ → Bool
@@ -59,12 +56,12 @@ all-not-above = tt
 all-near : T (every near 0 powers)
 all-near = tt
 
--- 2^exponent is the largest power of two that is not above 10^(i - 323), in least spacings
+-- 2^stepExponent is the largest power of two that is not above 10^(i - 323), in least spacings
 abbrev step-low : ℕ → ℕ → Bool
-step-low i p = leb (2 ^ exponent i * 10 ^ 323) (2 ^ 1074 * 10 ^ i)
+step-low i p = leb (2 ^ stepExponent i * 10 ^ 323) (2 ^ 1074 * 10 ^ i)
 
 abbrev step-high : ℕ → ℕ → Bool
-step-high i p = ltb (2 ^ 1074 * 10 ^ i) (2 ^ (exponent i + 1) * 10 ^ 323)
+step-high i p = ltb (2 ^ 1074 * 10 ^ i) (2 ^ (stepExponent i + 1) * 10 ^ 323)
 
 all-step-low : T (every step-low 0 powers)
 all-step-low = tt
@@ -147,8 +144,8 @@ estimate-high m i h e = go (leb→le i (suc (estimate (p / 2 ^ 52))) (at near po
 
 -- ---- the step
 
-pub step-at : (i : ℕ) → i ≤ 632 → (2 ^ exponent i * 10 ^ 323 ≤ 2 ^ 1074 * 10 ^ i) × (2 ^ 1074 * 10 ^ i < 2 ^ (exponent i + 1) * 10 ^ 323)
+pub step-at : (i : ℕ) → i ≤ 632 → (2 ^ stepExponent i * 10 ^ 323 ≤ 2 ^ 1074 * 10 ^ i) × (2 ^ 1074 * 10 ^ i < 2 ^ (stepExponent i + 1) * 10 ^ 323)
 step-at i h = (
-  leb→le (2 ^ exponent i * 10 ^ 323) (2 ^ 1074 * 10 ^ i) (at step-low powers all-step-low i (omega arith)),
-  ltb→lt (2 ^ 1074 * 10 ^ i) (2 ^ (exponent i + 1) * 10 ^ 323) (at step-high powers all-step-high i (omega arith)),
+  leb→le (2 ^ stepExponent i * 10 ^ 323) (2 ^ 1074 * 10 ^ i) (at step-low powers all-step-low i (omega arith)),
+  ltb→lt (2 ^ 1074 * 10 ^ i) (2 ^ (stepExponent i + 1) * 10 ^ 323) (at step-high powers all-step-high i (omega arith)),
 )

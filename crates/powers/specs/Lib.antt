@@ -1,2 +1,3 @@
 -- The table's entries, as a list.
 pub mod Table
+pub mod Fields

@@ -1,10 +1,11 @@
 // Method 6 of document 01, digits: how many last bits of a reading the method changes. A table of the powers of ten gives the decade of the reading's size;
 // the step, a power of two, follows from the decade, and the tail is what the step has above the reading's spacing.
 ghost use mathlib.Core.Path.{_≡_};
-ghost use Prim.Native.Nat.{_+_, _-_, _*_, _^_, _<_, _≤_};
+ghost use Prim.Native.Nat.{_+_, _-_, _*_, _/_, _%_, _^_, _<_, _≤_};
 ghost use Rattle.meaning.specs.Readings.{size, leastExp};
 ghost use Rattle.meaning.specs.Methods.{digits, decade, newMagnitude, halfshaved};
 ghost use Rattle.powers.specs.Table.{powers};
+ghost use Rattle.powers.specs.Fields.{stepExponent, fieldPlace, leastSingle, fieldLimit, fieldTail, Limits, Masks};
 
 // The place in the table of the last power of ten that is not above a subnormal double.
 fn subnormal_place(table: &[u64; 633], m: u64) -> usize
@@ -37,7 +38,8 @@ fn decade_place(table: &[u64; 633], m: u64) -> usize
 // The exponent of the largest power of two that is not above 10^(i - 323), counted from that of the least double.
 fn step_exponent(i: usize) -> u32
     requires { ⌜ i ≤ 632 ⌝ }
-    ensures { λ r. ⌜ (2 ^ r * 10 ^ 323 ≤ 2 ^ 1074 * 10 ^ i) × (2 ^ 1074 * 10 ^ i < 2 ^ (r + 1) * 10 ^ 323) ⌝ }
+    ensures is { λ r. ⌜ r ≡ stepExponent i ⌝ }
+    ensures power { λ r. ⌜ (2 ^ r * 10 ^ 323 ≤ 2 ^ 1074 * 10 ^ i) × (2 ^ 1074 * 10 ^ i < 2 ^ (r + 1) * 10 ^ 323) ⌝ }
 {
     ((i * 108853 + 33340) >> 15) as u32
 }
@@ -106,6 +108,83 @@ pub fn single_tail(table: &[u64; 633], m: u32, n: u32) -> u32
     }
     let j = step_exponent(r - d);
     difference(j, c)
+}
+
+// The place in the table of the first of the two decades that a single's exponent field f leaves.
+fn field_place(f: usize) -> usize
+    requires { ⌜ f < 256 ⌝ }
+    ensures { λ r. ⌜ r ≡ fieldPlace f ⌝ }
+{
+    ((f + 896) * 77 + 4100) >> 8
+}
+
+// The least magnitude of a single whose double is not below v.
+fn least_single(v: u64) -> u64
+    ensures { λ r. ⌜ r ≡ leastSingle v ⌝ }
+{
+    if v <= 0x3800_0000_0000_0000 {
+        return 0;
+    }
+    (v - 0x3800_0000_0000_0000 + 0x1fff_ffff) >> 29
+}
+
+// The least magnitude of a single with the exponent field f that lies in the second decade.
+fn field_limit(table: &[u64; 633], f: usize) -> u32
+    requires { ⌜ (f < 256) × (now table ≡ powers) ⌝ }
+    ensures { λ r. ⌜ r ≡ fieldLimit f ⌝ }
+{
+    let place = field_place(f);
+    let least = least_single(table[place + 1]);
+    if least < 0x7f80_0000 {
+        return least as u32;
+    }
+    0x7f80_0000
+}
+
+// The limits of all exponent fields.
+pub fn limits(table: &[u64; 633]) -> [u32; 256]
+    requires { ⌜ now table ≡ powers ⌝ }
+    ensures { λ r. ⌜ Limits r ⌝ }
+{
+    let mut all: [u32; 256] = [0; 256];
+    let mut f: usize = 0;
+    while f < 256 {
+        all[f] = field_limit(table, f);
+        f += 1;
+    }
+    all
+}
+
+// The bits that the method changes when it keeps n digits, as ones: of the field i / 2, in the first decade where i is even and in the second where it is odd.
+fn field_mask(i: usize, n: u32) -> u32
+    requires { ⌜ (i < 512) × (n ≤ 7) ⌝ }
+    ensures { λ r. ⌜ r ≡ 2 ^ fieldTail n (i / 2) (i % 2) - 1 ⌝ }
+{
+    let f = i / 2;
+    if f == 0 {
+        return 0;
+    }
+    if f == 255 {
+        return 0;
+    }
+    let place = field_place(f) + i % 2;
+    let j = step_exponent(place - n as usize);
+    let t = difference(j, 924 + f as u32);
+    (1u32 << t) - 1
+}
+
+// The masks of all exponent fields.
+pub fn masks(n: u32) -> [u32; 512]
+    requires { ⌜ n ≤ 7 ⌝ }
+    ensures { λ r. ⌜ Masks n r ⌝ }
+{
+    let mut all: [u32; 512] = [0; 512];
+    let mut i: usize = 0;
+    while i < 512 {
+        all[i] = field_mask(i, n);
+        i += 1;
+    }
+    all
 }
 
 // The magnitude of the smallest double that is not below 10^(i - 324). It makes the whole table: for many readings, lend `POWERS`.

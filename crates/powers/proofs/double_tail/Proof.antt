@@ -29,7 +29,7 @@ returns-2 : tie.Need-returns-2
 returns-2 c =
     let p = c .before .before .before .before .before .pre in
     let tail = double-some _ _ _ (c .before .before .before .decade-place .ensures .1) (p .2) (p .0) (p .1) in
-    rw (c .difference2 .ensures) (tail _ _ _ (sub-add-cancel (c .before .before .if1 .left)) (c .before .step-exponent .ensures) (c .before .before .before .before .difference .ensures))
+    rw (c .difference2 .ensures) (tail _ _ _ (sub-add-cancel (c .before .before .if1 .left)) (c .before .step-exponent .ensures .1) (c .before .before .before .before .difference .ensures))
 
 pub double-tail-spec : {M : Type 1} → statement M
 double-tail-spec = tie.close (tie.spec cast-difference difference-requires decade-place-requires returns step-exponent-requires difference-requires-2 returns-2)

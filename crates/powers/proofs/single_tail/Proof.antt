@@ -34,7 +34,7 @@ returns-2 c =
     let p = c .before .before .before .before .before .before .pre in
     let w = c .before .before .before .before .widened .ensures in
     let tail = single-some _ _ _ _ (c .before .before .before .decade-place .ensures .1) (w .2) (p .2) (p .0) (p .1) (w .0) in
-    rw (c .difference2 .ensures) (tail _ _ _ (sub-add-cancel (c .before .before .if1 .left)) (c .before .step-exponent .ensures) (c .before .before .before .before .before .difference .ensures))
+    rw (c .difference2 .ensures) (tail _ _ _ (sub-add-cancel (c .before .before .if1 .left)) (c .before .step-exponent .ensures .1) (c .before .before .before .before .before .difference .ensures))
 
 pub single-tail-spec : {M : Type 1} → statement M
 single-tail-spec = tie.close (tie.spec difference-requires add-c widened-requires decade-place-requires returns step-exponent-requires difference-requires-2 returns-2)

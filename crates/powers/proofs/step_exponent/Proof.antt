@@ -1,5 +1,6 @@
 -- The table's test at the place i.
 use native.Mathlib.Omega.{arith}
+use mathlib.Core.Path.{refl}
 use Rattle.powers.proofs.Powers.{step-at}
 use Rattle.powers.proofs.step_exponent.Statement.{statement}
 use Rattle.powers.proofs.step_exponent.Tie as tie
@@ -14,7 +15,7 @@ cast-result : tie.Need-cast-result
 cast-result c = omega arith
 
 returns : tie.Need-returns
-returns c = step-at (c .args .i) (c .pre)
+returns c = (refl, step-at (c .args .i) (c .pre))
 
 pub step-exponent-spec : {M : Type 1} → statement M
 step-exponent-spec = tie.close (tie.spec mul-result add-result cast-result returns)
