@@ -20,6 +20,29 @@ use Rattle.powers.proofs.Powers.{estimate, estimate-low, estimate-high,
 use Rattle.powers.proofs.Singles.{normal-widened}
 use Rattle.powers.proofs.Widths.{Tail, single-some}
 
+-- ---- the tail of a field
+
+pub tail-zero : (n f s : ℕ) → f ≡ 0 → fieldTail n f s ≡ 0
+unfolding fieldTail
+tail-zero n f s e = rw (eq-eqb f 0 e) refl
+
+pub tail-last : (n f s : ℕ) → f ≡ 255 → fieldTail n f s ≡ 0
+unfolding fieldTail
+tail-last n f s e = rw (ne-eqb f 0 (λ z. omega arith), eq-eqb f 255 e) refl
+
+tail-some : (n f s : ℕ) → f ≢ 0 → f ≢ 255 → fieldTail n f s ≡ stepExponent (fieldPlace f + s - n) - (924 + f)
+unfolding fieldTail
+tail-some n f s a b = rw (ne-eqb f 0 a, ne-eqb f 255 b) refl
+
+-- it has fewer bits than a word, also where no magnitude of the field lies in the decade
+pub tail-short : (n f s : ℕ) → f < 256 → s ≤ 1 → n ≤ 7 → fieldTail n f s < 32
+tail-short n f s l h k = go (ℕ-discrete f 0) (ℕ-discrete f 255)
+  where
+    go : Dec (f ≡ 0) → Dec (f ≡ 255) → fieldTail n f s < 32
+    go (yes z) d = rw (tail-zero n f s z) (omega arith)
+    go (no z) (yes d) = rw (tail-last n f s d) (omega arith)
+    go (no z) (no d) = rw (tail-some n f s z d) (omega arith)
+
 -- the limit, from a table and a place in it
 module _ (f p q : ℕ) (t : List ℕ) (e : t ≡ powers) (pp : p ≡ fieldPlace f) (qq : q ≡ leastSingle (getD t (p + 1) 0)) where
   same-least : q ≡ leastSingle (getD powers (fieldPlace f + 1) 0)
@@ -74,13 +97,13 @@ module _ (m : ℕ) (l : 2 ^ 23 ≤ m) (h : m < 0x7f80_0000) where
 
   module _ (n : ℕ) (one : 1 ≤ n) (few : n ≤ 7) where
     tail-at : (s : ℕ) → s ≤ 1 → decade 52 11 w ≡ fieldPlace f + s + 751 → Tail 23 8 n m (fieldTail n f s)
-    unfolding fieldTail
     tail-at s b d =
         let r : ℕ = fieldPlace f + s in
         let e : 925 + (f - 1) ≡ 924 + f = omega arith in
-        rw (ne-eqb f 0 (λ z. omega arith), ne-eqb f 255 (λ z. omega arith))
+        rw (tail-some n f s (λ z. omega arith) (λ z. omega arith))
         (subst (λ (x : ℕ). Tail 23 8 n m (stepExponent (r - n) - x)) e
-        (single-some r n m w d (normal-widened m l) one (omega arith) h (omega arith) (stepExponent (r - n)) (r - n) (f - 1) (sub-add-cancel (omega arith)) (step-at (r - n) (omega arith)) refl))
+        (single-some r n m w d (normal-widened m l) one (omega arith) h (omega arith) (stepExponent (r - n)) (r - n) (f - 1) (sub-add-cancel (omega arith))
+        (step-at (r - n) (omega arith)) refl))
 
     pub field-tail : Tail 23 8 n m (fieldTail n (m / 2 ^ 23) (cond (ltb m (fieldLimit (m / 2 ^ 23))) 0 1))
     field-tail = go (decLt m (fieldLimit f))
@@ -89,29 +112,23 @@ module _ (m : ℕ) (l : 2 ^ 23 ≤ m) (h : m < 0x7f80_0000) where
         go (yes k) = rw (lt-ltb m (fieldLimit f) k) (tail-at 0 (omega arith) (first k ∙ omega arith))
         go (no k) = rw (le-ltb m (fieldLimit f) (omega arith)) (tail-at 1 (omega arith) (second (omega arith)))
 
--- a tail has fewer bits than a word, also where no magnitude of the field lies in the decade
-pub tail-short : (n f s : ℕ) → f < 256 → s ≤ 1 → n ≤ 7 → stepExponent (fieldPlace f + s - n) - (924 + f) < 32
-tail-short n f s a b c = omega arith
-
 -- the mask, by the three ways through the code
 pub mask-zero : (n f s : ℕ) → f ≡ 0 → 0 ≡ 2 ^ fieldTail n f s - 1
-unfolding fieldTail
-mask-zero n f s e = rw (eq-eqb f 0 e) refl
+mask-zero n f s e = rw (tail-zero n f s e) refl
 
 pub mask-last : (n f s : ℕ) → f ≡ 255 → 0 ≡ 2 ^ fieldTail n f s - 1
-unfolding fieldTail
-mask-last n f s e = rw (ne-eqb f 0 (λ z. omega arith), eq-eqb f 255 e) refl
+mask-last n f s e = rw (tail-last n f s e) refl
 
 pub mask-some : (n f s p j t : ℕ) → f ≢ 0 → f ≢ 255 → f < 256 → s ≤ 1 → n ≤ 7 → p ≡ fieldPlace f → j ≡ stepExponent (p + s - n) → t ≡ j - (924 + f)
     → 1 * 2 ^ t % 2 ^ 32 ≡ 2 ^ fieldTail n f s
-unfolding fieldTail
 mask-some n f s p j t a b l h k pp jj tt' =
-    let e : t ≡ stepExponent (fieldPlace f + s - n) - (924 + f) = tt' ∙ rw (jj, pp) refl in
-    rw (ne-eqb f 0 a, ne-eqb f 255 b, ← e, one-mul) (mod-eq-of-lt (pow-lt {i = t} {j = 32} (omega (arith, e, tail-short n f s l h k))))
+    let e : t ≡ fieldTail n f s = tt' ∙ rw (jj, pp) (sym (tail-some n f s a b)) in
+    rw (e, one-mul) (mod-eq-of-lt (pow-lt {i = fieldTail n f s} {j = 32} (tail-short n f s l h k)))
 
 -- ---- a table that is filled in order
 
-pub filled : (g : ℕ → ℕ) (xs : List ℕ) (i v : ℕ) → i < length xs → v ≡ g i → ((k : ℕ) → k < i → getD xs k 0 ≡ g k) → (k : ℕ) → k < i + 1 → getD (set xs i v) k 0 ≡ g k
+pub filled : (g : ℕ → ℕ) (xs : List ℕ) (i v : ℕ) → i < length xs → v ≡ g i → ((k : ℕ) → k < i → getD xs k 0 ≡ g k)
+    → (k : ℕ) → k < i + 1 → getD (set xs i v) k 0 ≡ g k
 filled g xs i v h e all k l = go (ℕ-discrete k i)
   where
     go : Dec (k ≡ i) → getD (set xs i v) k 0 ≡ g k

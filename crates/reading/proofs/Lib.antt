@@ -1,3 +1,4 @@
 pub mod Counted
 pub mod Words
 pub mod Bys
+pub mod Fields

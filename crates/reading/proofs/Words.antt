@@ -143,7 +143,7 @@ module _ (F X : ℕ) where
     unfolding over
     over-word o oo = oo ∙ rw up-is (round-over t (magnitude F X w) h)
 
-  digits-zero : (n m : ℕ) → m ≡ 0 → newMagnitude F X (digits n) 0 m ≡ 0
+  pub digits-zero : (n m : ℕ) → m ≡ 0 → newMagnitude F X (digits n) 0 m ≡ 0
   unfolding newMagnitude
   digits-zero n m z = rw (eq-eqb m 0 z) z
 

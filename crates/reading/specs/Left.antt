@@ -1,7 +1,7 @@
 -- What is left of a reading x whose new pattern would be z, and what it counts for; and the new pattern of a reading by its new magnitude.
 use mathlib.Core.Bool.{cond}
-use Prim.Native.Nat.{ℕ, _+_}
-use lib.Dec.{eqb}
+use Prim.Native.Nat.{ℕ, _+_, _^_}
+use lib.Dec.{eqb, ltb}
 use Rattle.meaning.specs.Readings.{sign, magnitude, pattern, finite}
 use Rattle.meaning.specs.Methods.{Method, shaved, newMagnitude, clips}
 use Rattle.reading.specs.declared.Single.{Single}
@@ -46,6 +46,10 @@ module _ (F X : ℕ) where
 
   unfoldable pub over : Method → ℕ → ℕ
   over x w = cond (clips F X x (magnitude F X w)) 1 0
+
+  -- 1 for a reading whose exponent field is 0 and that isn't zero
+  unfoldable pub subnormal : ℕ → ℕ
+  subnormal w = cond (eqb (magnitude F X w) 0) 0 (cond (ltb (magnitude F X w) (2 ^ F)) 1 0)
 
 -- methods 0 to 3: a tail of t bits becomes `add`, and zero stays
 unfoldable pub tailAdded : ℕ → ℕ → ℕ → ℕ

@@ -7,7 +7,8 @@ ghost use lib.Dec.{eqb, ltb};
 ghost use Rattle.meaning.specs.Readings.{magnitude, infinity};
 ghost use Rattle.meaning.specs.Methods.{halfshaved, round, absolute, digits};
 ghost use Rattle.powers.specs.Table.{powers};
-ghost use Rattle.reading.specs.Left.{singleFrom, doubleFrom, singleBy, doubleBy, wanted, tailAdded};
+ghost use Rattle.powers.specs.Fields.{Limits, Masks};
+ghost use Rattle.reading.specs.Left.{singleFrom, doubleFrom, singleBy, doubleBy, wanted, tailAdded, subnormal};
 
 // What is left of a single, and four numbers of 0 or 1: whether it is changed, whether it or its result is the mark, whether it is clipped, whether it is missing.
 pub struct Single {
@@ -254,6 +255,37 @@ pub fn digit_single(table: &[u64; 633], x: u32, n: u32, mark: u32) -> Single
     let h = halfshave_single(a, t);
     let k = choose_single(m, 0, 0, h);
     let z = below_single(m, (x - m) + k, x);
+    settle_single(x, z, 0, mark)
+}
+
+// 1 where a single is subnormal and not zero, 0 elsewhere.
+pub fn subnormal_single(x: u32) -> u32
+    ensures { λ r. ⌜ r ≡ subnormal 23 8 x ⌝ }
+{
+    let m = x % 0x8000_0000;
+    if m == 0 {
+        return 0;
+    }
+    if m < 0x80_0000 { 1 } else { 0 }
+}
+
+// 0 where m is below the limit, 1 elsewhere.
+fn decade_single(m: u32, limit: u32) -> usize
+    ensures { λ r. ⌜ r ≡ cond (ltb m limit) 0 1 ⌝ }
+{
+    if m < limit { 0 } else { 1 }
+}
+
+// Method 6 with n digits on a single that isn't subnormal, by the tables of the exponent fields: the limit says which mask, and the mask's bits become a one and zeros.
+pub fn field_single(limits: &[u32; 256], masks: &[u32; 512], x: u32, n: u32, mark: u32) -> Single
+    requires { ⌜ ((1 ≤ n) × (n ≤ 7)) × (Limits (now limits)) × (Masks n (now masks)) × (subnormal 23 8 x ≡ 0) ⌝ }
+    ensures { λ r. ⌜ r ≡ singleBy (digits n) mark 0 x ⌝ }
+{
+    let m = x % 0x8000_0000;
+    let f = (m >> 23) as usize;
+    let s = decade_single(m, limits[f]);
+    let ones = masks[f * 2 + s];
+    let z = x - (m & ones) + (ones + 1) / 2;
     settle_single(x, z, 0, mark)
 }
 
