@@ -1,6 +1,6 @@
 -- A single that isn't subnormal lies in one of the two decades that its exponent field leaves, by the field's limit; and its tail is the one that the decade and the
 -- field give. The limit is where the double of the same size reaches the table's next power.
-use mathlib.Core.Path.{_≡_, refl, sym, ap, _∙_, subst}
+use mathlib.Core.Path.{_≡_, refl, sym, _∙_, subst}
 use mathlib.Core.Logic.{_≢_}
 use mathlib.Core.Bool.{cond}
 use mathlib.Core.List.{List}

@@ -1,5 +1,6 @@
 pub mod Walks
 pub mod Few
+pub mod Rest
 pub mod Blocks
 pub mod Planned
 pub mod Meaning

@@ -1,8 +1,8 @@
 -- Each loop's walk is that of a method, at every place.
-use mathlib.Core.Path.{_≡_, refl, ap, _∙_, fun-ext}
+use mathlib.Core.Path.{_≡_, refl, ap, fun-ext}
 use Prim.Native.Nat.{ℕ, _-_, _≤_, _<_}
 use native.Mathlib.Omega.{arith}
-use Rattle.meaning.specs.Methods.{Method, round, absolute, digits, newMagnitude}
+use Rattle.meaning.specs.Methods.{Method, round, absolute, newMagnitude}
 use Rattle.reading.specs.declared.Single.{Single}
 use Rattle.reading.specs.declared.Double.{Double}
 use Rattle.reading.specs.Left.{singleBy, doubleBy}
@@ -10,11 +10,7 @@ use Rattle.asking.specs.Asked.{methodBy}
 use Rattle.trim.specs.declared.Plan.{Plan}
 use Rattle.trim.specs.Plans.{evenBy, oddBy, Plans}
 use Rattle.trim.specs.Walk.{planned, tailDouble}
-use Rattle.trim.proofs.Tails.{double-tail-by, double-none, single-placeless, double-placeless, digits-placeless}
-
-pub by-six : (method n : ℕ) → method ≡ 6 → digits n ≡ methodBy method n
-unfolding methodBy
-by-six method n e = rw e refl
+use Rattle.trim.proofs.Tails.{double-tail-by, double-none, double-placeless}
 
 pub by-five : (method n q : ℕ) → method ≡ 5 → q ≡ n → absolute q ≡ methodBy method n
 unfolding methodBy
@@ -23,10 +19,6 @@ by-five method n q e f = rw (e, f) refl
 pub by-four : (method n : ℕ) → method ≡ 4 → n ≤ 52 → round (52 - (52 - n)) ≡ methodBy method n
 unfolding methodBy
 by-four method n e l = rw e (ap round (let k : 52 - (52 - n) ≡ n = omega arith in k))
-
-pub single-digits : (method n mark : ℕ) → method ≡ 6 → _≡_ {A = ℕ → ℕ → Single} (λ i w. singleBy (digits n) mark 0 w) (λ i w. singleBy (methodBy method n) mark i w)
-single-digits method n mark e =
-    fun-ext (λ i. fun-ext (λ w. single-placeless (digits n) (digits-placeless 23 8 n) mark i w ∙ ap (λ (x : Method). singleBy x mark i w) (by-six method n e)))
 
 pub single-plan : (method n mark : ℕ) (p : Plan) → Plans method n p → _≡_ {A = ℕ → ℕ → Single} (planned p mark) (λ i w. singleBy (methodBy method n) mark i w)
 single-plan method n mark p h = fun-ext (λ i. fun-ext (λ w. h .same mark i w))

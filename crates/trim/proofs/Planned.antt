@@ -8,7 +8,7 @@ use native.Mathlib.Omega.{arith}
 use borrow.Author.Tests.{eq-eqb, ne-eqb}
 use lib.Dec.{eqb}
 use lib.ListN.{length, take, drop}
-use Rattle.meaning.specs.Methods.{round, absolute}
+use Rattle.meaning.specs.Methods.{round, absolute, digits}
 use Rattle.reading.specs.declared.Single.{Single}
 use Rattle.reading.specs.Left.{singleBy}
 use Rattle.trim.specs.declared.Block.{Block}
@@ -36,7 +36,9 @@ module _ (p : Plan) (mark : ℕ) where
 
   pub planned-few : (i w : ℕ) → FewSingle (planned p mark i w)
   unfolding planned
-  planned-few i w = few-if (eqb (p .kind) 0) (few-tail (p .t) (p .even) (p .odd) mark i w) (few-if (eqb (p .kind) 1) (few-single-by (round (23 - p .t)) mark 0 w) (few-single-by (absolute (p .q)) mark 0 w))
+  planned-few i w = few-if (eqb (p .kind) 0) (few-tail (p .t) (p .even) (p .odd) mark i w)
+      (few-if (eqb (p .kind) 1) (few-single-by (round (23 - p .t)) mark 0 w)
+      (few-if (eqb (p .kind) 3) (few-single-by (digits (p .q)) mark 0 w) (few-single-by (absolute (p .q)) mark 0 w)))
 
   pub paired : Paired (λ i w. planned p mark i w .pattern) (λ i w. planned p mark i w .changed) (λ i w. planned p mark i w .marked) (λ i w. planned p mark i w .clipped) (λ i w. planned p mark i w .missing)
   paired =
@@ -61,9 +63,13 @@ module _ (p : Plan) (mark : ℕ) where
   unfolding planned
   is-round e = fun-ext (λ i. fun-ext (λ w. rw (ne-eqb (p .kind) 0 (omega arith), eq-eqb (p .kind) 1 e) refl))
 
-  pub is-absolute : p .kind ≢ 0 → p .kind ≢ 1 → planned p mark ≡ (λ i w. singleBy (absolute (p .q)) mark 0 w)
+  pub is-digits : p .kind ≡ 3 → planned p mark ≡ (λ i w. singleBy (digits (p .q)) mark 0 w)
   unfolding planned
-  is-absolute e f = fun-ext (λ i. fun-ext (λ w. rw (ne-eqb (p .kind) 0 e, ne-eqb (p .kind) 1 f) refl))
+  is-digits e = fun-ext (λ i. fun-ext (λ w. rw (ne-eqb (p .kind) 0 (omega arith), ne-eqb (p .kind) 1 (omega arith), eq-eqb (p .kind) 3 e) refl))
+
+  pub is-absolute : p .kind ≢ 0 → p .kind ≢ 1 → p .kind ≢ 3 → planned p mark ≡ (λ i w. singleBy (absolute (p .q)) mark 0 w)
+  unfolding planned
+  is-absolute e f g = fun-ext (λ i. fun-ext (λ w. rw (ne-eqb (p .kind) 0 e, ne-eqb (p .kind) 1 f, ne-eqb (p .kind) 3 g) refl))
 
 -- ---- the loop over blocks by a plan
 

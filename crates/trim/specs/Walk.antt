@@ -4,11 +4,12 @@ use mathlib.Core.Bool.{Bool, true, false, cond}
 use mathlib.Core.List.{List, [], _∷_}
 use Prim.Native.Nat.{ℕ, suc, _+_, _-_, _%_, _^_, _≤_, _<_}
 use lib.Dec.{eqb}
+use lib.ListN.{length, getD}
 use Rattle.meaning.specs.Readings.{magnitude}
-use Rattle.meaning.specs.Methods.{round, absolute}
+use Rattle.meaning.specs.Methods.{round, absolute, digits}
 use Rattle.reading.specs.declared.Single.{Single}
 use Rattle.reading.specs.declared.Double.{Double}
-use Rattle.reading.specs.Left.{singleFrom, doubleFrom, singleBy, wanted, tailAdded}
+use Rattle.reading.specs.Left.{singleFrom, doubleFrom, singleBy, wanted, tailAdded, subnormal}
 use Rattle.trim.specs.declared.Block.{Block}
 use Rattle.trim.specs.declared.Totals.{Totals}
 use Rattle.trim.specs.declared.Plan.{Plan}
@@ -79,9 +80,16 @@ pub record Sound (p : Plan) : Type 0 where
   pub odd-fits : p .odd < 2 ^ p .t
   pub some : p .kind ≡ 1 → 1 ≤ p .t
   pub fine : p .kind ≡ 2 → p .q ≤ 252
+  pub some-digits : p .kind ≡ 3 → 1 ≤ p .q
+  pub few-digits : p .kind ≡ 3 → p .q ≤ 7
 
 unfoldable pub planned : Plan → ℕ → ℕ → ℕ → Single
 planned p mark place w =
     singleIf (eqb (p .kind) 0) (tailSingle (p .t) (p .even) (p .odd) mark place w)
     (singleIf (eqb (p .kind) 1) (singleBy (round (23 - p .t)) mark 0 w)
-    (singleBy (absolute (p .q)) mark 0 w))
+    (singleIf (eqb (p .kind) 3) (singleBy (digits (p .q)) mark 0 w)
+    (singleBy (absolute (p .q)) mark 0 w)))
+
+-- no reading is subnormal
+abbrev pub NoSubnormal : List ℕ → Type 0
+NoSubnormal ws = (k : ℕ) → k < length ws → subnormal 23 8 (getD ws k 0) ≡ 0

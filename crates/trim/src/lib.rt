@@ -1,15 +1,18 @@
 // Trimming an array in place: each method's loop, in both widths. The loops over singles run in blocks, so that 32-bit counters serve and LLVM can work on four
 // readings at once.
 ghost use mathlib.Core.Path.{_≡_};
+ghost use mathlib.Core.Bool.{true};
 ghost use Prim.Native.Nat.{min, _-_, _^_, _<_, _≤_};
 ghost use lib.ListN.{length};
 ghost use Rattle.meaning.specs.Methods.{round, absolute, digits};
+ghost use Rattle.powers.specs.Table.{powers};
+ghost use Rattle.powers.specs.Fields.{Limits, Masks};
 ghost use Rattle.reading.specs.Left.{singleBy, doubleBy};
 ghost use Rattle.meaning.specs.Calls.{trimSingles, trimDoubles, loader};
 ghost use Rattle.asking.specs.Asked.{methodBy};
 ghost use Rattle.trim.specs.Answers.{answerOf};
 ghost use Rattle.trim.specs.Plans.{halfUnit, evenBy, oddBy, Plans, Fitting};
-ghost use Rattle.trim.specs.Walk.{Sound, planned, singlesLeft, singlesSummed, singlesTotal, doublesLeft, doublesSummed, addAt, tailSingle, tailDouble};
+ghost use Rattle.trim.specs.Walk.{Sound, NoSubnormal, planned, singlesLeft, singlesSummed, singlesTotal, doublesLeft, doublesSummed, addAt, tailSingle, tailDouble};
 
 // The sums over a block of singles: places changed, places where the reading or its result is the mark, places clipped, places missing.
 pub struct Block {
@@ -265,6 +268,108 @@ fn coarse_doubles(readings: &mut [u64], q: u64, mark: u64) -> Totals
     }
 }
 
+// Method 6 over a block of singles, with n digits.
+fn digit_singles(table: &[u64; 633], readings: &mut [u32], n: u32, mark: u32) -> Block
+    requires { ⌜ ((1 ≤ n) × (n ≤ 7)) × (length (now readings) ≤ 65536) × (now table ≡ powers) ⌝ }
+    ensures sums { λ r. ⌜ r ≡ singlesSummed (λ i w. singleBy (digits n) mark 0 w) (now (readings .entry)) ⌝ }
+    ensures content { λ _. ⌜ now (readings .exit) ≡ singlesLeft (λ i w. singleBy (digits n) mark 0 w) (now (readings .entry)) ⌝ }
+{
+    let mut changed: u32 = 0;
+    let mut marked: u32 = 0;
+    let mut clipped: u32 = 0;
+    let mut missing: u32 = 0;
+    let mut i: usize = 0;
+    while i < readings.len() {
+        let one = reading::digit_single(table, readings[i], n, mark);
+        readings[i] = one.pattern;
+        changed += one.changed;
+        marked += one.marked;
+        clipped += one.clipped;
+        missing += one.missing;
+        i += 1;
+    }
+    Block {
+        changed,
+        marked,
+        clipped,
+        missing,
+    }
+}
+
+// The same by the tables of the exponent fields, where no reading is subnormal.
+fn field_singles(
+    limits: &[u32; 256],
+    masks: &[u32; 512],
+    readings: &mut [u32],
+    n: u32,
+    mark: u32,
+) -> Block
+    requires { ⌜ ((1 ≤ n) × (n ≤ 7)) × (length (now readings) ≤ 65536) × (Limits (now limits)) × (Masks n (now masks)) × (NoSubnormal (now readings)) ⌝ }
+    ensures sums { λ r. ⌜ r ≡ singlesSummed (λ i w. singleBy (digits n) mark 0 w) (now (readings .entry)) ⌝ }
+    ensures content { λ _. ⌜ now (readings .exit) ≡ singlesLeft (λ i w. singleBy (digits n) mark 0 w) (now (readings .entry)) ⌝ }
+{
+    let mut changed: u32 = 0;
+    let mut marked: u32 = 0;
+    let mut clipped: u32 = 0;
+    let mut missing: u32 = 0;
+    let mut i: usize = 0;
+    while i < readings.len() {
+        let one = reading::field_single(limits, masks, readings[i], n, mark);
+        readings[i] = one.pattern;
+        changed += one.changed;
+        marked += one.marked;
+        clipped += one.clipped;
+        missing += one.missing;
+        i += 1;
+    }
+    Block {
+        changed,
+        marked,
+        clipped,
+        missing,
+    }
+}
+
+// How many singles of a block are subnormal and not zero.
+fn subnormal_singles(readings: &[u32]) -> u32
+    requires { ⌜ length (now readings) ≤ 65536 ⌝ }
+    ensures { λ r. ⌜ (r ≡ 0 → NoSubnormal (now (readings .entry))) ⌝ }
+{
+    let mut found: u32 = 0;
+    let mut i: usize = 0;
+    while i < readings.len() {
+        found += reading::subnormal_single(readings[i]);
+        i += 1;
+    }
+    found
+}
+
+// Whether the tables of the exponent fields serve a block: it is long enough to make them for, and no reading is subnormal.
+fn fields_serve(readings: &[u32]) -> bool
+    requires { ⌜ length (now readings) ≤ 65536 ⌝ }
+    ensures { λ r. ⌜ (r ≡ true → NoSubnormal (now (readings .entry))) ⌝ }
+{
+    if readings.len() < 1024 {
+        return false;
+    }
+    subnormal_singles(readings) == 0
+}
+
+// Method 6 over a block of singles, by whichever serves. The table is named once for the block.
+fn digits_block(readings: &mut [u32], n: u32, mark: u32) -> Block
+    requires { ⌜ ((1 ≤ n) × (n ≤ 7)) × (length (now readings) ≤ 65536) ⌝ }
+    ensures sums { λ r. ⌜ r ≡ singlesSummed (λ i w. singleBy (digits n) mark 0 w) (now (readings .entry)) ⌝ }
+    ensures content { λ _. ⌜ now (readings .exit) ≡ singlesLeft (λ i w. singleBy (digits n) mark 0 w) (now (readings .entry)) ⌝ }
+{
+    let table = powers::POWERS;
+    if fields_serve(&*readings) {
+        let limits = powers::limits(&table);
+        let masks = powers::masks(n);
+        return field_singles(&limits, &masks, readings, n, mark);
+    }
+    digit_singles(&table, readings, n, mark)
+}
+
 // The most readings of a block: n, or 65,536 where n is more.
 fn at_most_block(n: usize) -> usize
     ensures { λ r. ⌜ r ≡ min n 65536 ⌝ }
@@ -273,7 +378,7 @@ fn at_most_block(n: usize) -> usize
 }
 
 // How the singles of an array are trimmed. kind 0: methods 0 to 3, the tail of t bits becomes `even` or `odd`; kind 1: method 4 with a tail of t bits, not none;
-// kind 2: method 5 with the unit 2^q, by the float adder; any other kind: method 5 with the unit 2^q.
+// kind 2: method 5 with the unit 2^q, by the float adder; kind 3: method 6 with q digits; any other kind: method 5 with the unit 2^q.
 pub struct Plan {
     pub kind: u32,
     pub t: u32,
@@ -296,6 +401,9 @@ fn block_singles(readings: &mut [u32], plan: Plan, mark: u32) -> Block
     }
     if plan.kind == 2 {
         return fine_singles(readings, plan.q, mark);
+    }
+    if plan.kind == 3 {
+        return digits_block(readings, plan.q, mark);
     }
     coarse_singles(readings, plan.q, mark)
 }
@@ -325,35 +433,6 @@ fn plan_singles(readings: &mut [u32], plan: Plan, mark: u32) -> Totals
         clipped += wide(block.clipped);
         missing += wide(block.missing);
         a = e;
-    }
-    Totals {
-        changed,
-        marked,
-        clipped,
-        missing,
-    }
-}
-
-// Method 6 over singles, with n digits. The table is named once for the array.
-fn digit_singles(readings: &mut [u32], n: u32, mark: u32) -> Totals
-    requires { ⌜ (1 ≤ n) × (n ≤ 7) ⌝ }
-    ensures sums { λ r. ⌜ r ≡ singlesTotal (λ i w. singleBy (digits n) mark 0 w) (now (readings .entry)) ⌝ }
-    ensures content { λ _. ⌜ now (readings .exit) ≡ singlesLeft (λ i w. singleBy (digits n) mark 0 w) (now (readings .entry)) ⌝ }
-{
-    let table = powers::POWERS;
-    let mut changed: u64 = 0;
-    let mut marked: u64 = 0;
-    let mut clipped: u64 = 0;
-    let mut missing: u64 = 0;
-    let mut i: usize = 0;
-    while i < readings.len() {
-        let one = reading::digit_single(&table, readings[i], n, mark);
-        readings[i] = one.pattern;
-        changed += wide(one.changed);
-        marked += wide(one.marked);
-        clipped += wide(one.clipped);
-        missing += wide(one.missing);
-        i += 1;
     }
     Totals {
         changed,
@@ -464,11 +543,20 @@ fn half_double(t: u32) -> u64
     reading::power_double(t - 1)
 }
 
-// The plan of methods 0 to 5 for singles, by a method's number and its natural setting.
+// The plan of a method for singles, by its number and its natural setting.
 fn plan_single(method: u32, n: u32) -> Plan
-    requires { ⌜ (method ≤ 5) × (method ≤ 4 → n ≤ 23) ⌝ }
+    requires { ⌜ Fitting method n 23 7 ⌝ }
     ensures { λ r. ⌜ Plans method n r ⌝ }
 {
+    if method == 6 {
+        return Plan {
+            kind: 3,
+            t: 0,
+            even: 0,
+            odd: 0,
+            q: n,
+        };
+    }
     if method == 5 {
         return step_plan(n);
     }
@@ -524,7 +612,7 @@ fn step_plan(q: u32) -> Plan
         };
     }
     Plan {
-        kind: 3,
+        kind: 4,
         t: 0,
         even: 0,
         odd: 0,
@@ -538,9 +626,6 @@ fn method_singles(readings: &mut [u32], method: u32, n: u32, mark: u32) -> Total
     ensures sums { λ r. ⌜ r ≡ singlesTotal (λ i w. singleBy (methodBy method n) mark i w) (now (readings .entry)) ⌝ }
     ensures content { λ _. ⌜ now (readings .exit) ≡ singlesLeft (λ i w. singleBy (methodBy method n) mark i w) (now (readings .entry)) ⌝ }
 {
-    if method == 6 {
-        return digit_singles(readings, n, mark);
-    }
     let plan = plan_single(method, n);
     plan_singles(readings, plan, mark)
 }
@@ -659,6 +744,10 @@ fn planned_single(plan: Plan, x: u32, place: u64, mark: u32) -> reading::Single
     if plan.kind == 1 {
         return reading::round_single(x, plan.t, mark);
     }
+    if plan.kind == 3 {
+        let table = powers::POWERS;
+        return reading::digit_single(&table, x, plan.q, mark);
+    }
     reading::coarse_single(x, plan.q, mark)
 }
 
@@ -667,10 +756,6 @@ fn method_single(x: u32, method: u32, n: u32, mark: u32, place: u64) -> reading:
     requires { ⌜ Fitting method n 23 7 ⌝ }
     ensures { λ r. ⌜ r ≡ singleBy (methodBy method n) mark place x ⌝ }
 {
-    if method == 6 {
-        let table = powers::POWERS;
-        return reading::digit_single(&table, x, n, mark);
-    }
     let plan = plan_single(method, n);
     planned_single(plan, x, place, mark)
 }

@@ -1,21 +1,21 @@
 -- The walk's laws at each turn; what one reading counts for fits its counter.
 use borrow.Author.Needs.{needs}
-use mathlib.Core.Path.{refl, subst, sym}
+use mathlib.Core.Path.{subst, sym}
 use Prim.Native.Nat.{_-_}
 use native.Mathlib.Omega.{arith}
 use lib.ListN.{length}
 use Rattle.meaning.specs.Methods.{digits}
 use Rattle.reading.specs.Left.{singleBy}
-use Rattle.trim.proofs.Few.{SingleTurn, few-single-by, FewSingle, single-start, single-turn-by, single-total}
+use Rattle.trim.proofs.Few.{SingleTurn, few-single-by, FewSingle, single-start, single-turn, single-finish}
 use Rattle.trim.proofs.digit_singles.Statement.{statement}
 use Rattle.trim.proofs.digit_singles.Tie as tie
 
 abbrev Inv-loop : tie.InvT-loop
-Inv-loop readings₀ n mark table changed₀ marked₀ clipped₀ missing₀ i₀ readings changed marked clipped missing i =
+Inv-loop table readings₀ n mark changed₀ marked₀ clipped₀ missing₀ i₀ readings changed marked clipped missing i =
     SingleTurn (λ i w. singleBy (digits (n)) (mark) 0 w) readings₀ readings changed marked clipped missing i
 
 abbrev μ-loop : tie.MeasureT-loop
-μ-loop readings₀ n mark table changed₀ marked₀ clipped₀ missing₀ i₀ readings changed marked clipped missing i = length readings₀ - i
+μ-loop table readings₀ n mark changed₀ marked₀ clipped₀ missing₀ i₀ readings changed marked clipped missing i = length readings₀ - i
 
 loop-holds : tie.Need-loop-holds Inv-loop μ-loop
 loop-holds c =
@@ -29,7 +29,7 @@ slice-read-digit-single : tie.Need-slice-read-digit-single Inv-loop μ-loop
 slice-read-digit-single c = omega arith
 
 digit-single-requires : tie.Need-digit-single-requires Inv-loop μ-loop
-digit-single-requires c κs = ((c .before .before .before .before .before .pre .0, c .before .before .before .before .before .pre .1), refl)
+digit-single-requires c κs = let p = c .before .before .before .before .pre in (p .0, p .2)
 
 mul-readings : tie.Need-mul-readings Inv-loop μ-loop
 mul-readings c = omega arith
@@ -39,32 +39,20 @@ slice-write-readings c = omega arith
 
 one : (c : tie.After-digit-single Inv-loop μ-loop) → FewSingle (c .digit-single .result)
 one c =
-    let s = c .before .before .before .before .before .before .args in
+    let s = c .before .before .before .before .before .args in
     subst FewSingle (sym (c .digit-single .ensures)) (few-single-by (digits (s .n)) (s .mark) 0 _)
 
-wide-requires : tie.Need-wide-requires Inv-loop μ-loop
-wide-requires c κs = tt
-
 add-changed : tie.Need-add-changed Inv-loop μ-loop
-add-changed c = omega (arith, one (c .before) .changed-few, c .wide .ensures)
-
-wide-requires-2 : tie.Need-wide-requires-2 Inv-loop μ-loop
-wide-requires-2 c κs = tt
+add-changed c = omega (arith, one (c .before) .changed-few)
 
 add-marked : tie.Need-add-marked Inv-loop μ-loop
-add-marked c = omega (arith, one (c .before .before) .marked-few, c .wide2 .ensures)
-
-wide-requires-3 : tie.Need-wide-requires-3 Inv-loop μ-loop
-wide-requires-3 c κs = tt
+add-marked c = omega (arith, one (c .before .before) .marked-few)
 
 add-clipped : tie.Need-add-clipped Inv-loop μ-loop
-add-clipped c = omega (arith, one (c .before .before .before) .clipped-few, c .wide3 .ensures)
-
-wide-requires-4 : tie.Need-wide-requires-4 Inv-loop μ-loop
-wide-requires-4 c κs = tt
+add-clipped c = omega (arith, one (c .before .before .before) .clipped-few)
 
 add-missing : tie.Need-add-missing Inv-loop μ-loop
-add-missing c = omega (arith, one (c .before .before .before .before) .missing-few, c .wide4 .ensures)
+add-missing c = omega (arith, one (c .before .before .before .before) .missing-few)
 
 add-i : tie.Need-add-i Inv-loop μ-loop
 add-i c = omega arith
@@ -74,13 +62,11 @@ loop-less c = omega arith
 
 loop-again : tie.Need-loop-again Inv-loop μ-loop
 loop-again c =
-    let at = c .before .before .before .before .before .before .before .before in
+    let at = c .before .before .before .before .before .before .before in
     let s = at .before .before .args in
-    single-turn-by (λ i w. singleBy (digits (s .n)) (s .mark) 0 w) (λ i w. few-single-by (digits (s .n)) (s .mark) 0 w) (s .readings .now) (at .loop .readings)
+    single-turn (λ i w. singleBy (digits (s .n)) (s .mark) 0 w) (λ i w. few-single-by (digits (s .n)) (s .mark) 0 w) (s .readings .now) (at .loop .readings)
     (at .loop .changed) (at .loop .marked) (at .loop .clipped) (at .loop .missing) (at .loop .i) (at .loop .inv) (omega arith)
     (c .before .before .before .before .digit-single .result) (c .before .before .before .before .digit-single .ensures)
-    (c .before .before .before .wide .result) (c .before .before .wide2 .result) (c .before .wide3 .result) (c .wide4 .result)
-    (c .before .before .before .wide .ensures) (c .before .before .wide2 .ensures) (c .before .wide3 .ensures) (c .wide4 .ensures)
 
 same-length : tie.Need-same-length Inv-loop μ-loop
 same-length c = search needs
@@ -89,7 +75,7 @@ returns : tie.Need-returns Inv-loop μ-loop
 returns c =
     let at = c .before in
     let s = at .before .before .args in
-    single-total (λ i w. singleBy (digits (s .n)) (s .mark) 0 w) (λ i w. few-single-by (digits (s .n)) (s .mark) 0 w) (s .readings .now) (at .loop .readings)
+    single-finish (λ i w. singleBy (digits (s .n)) (s .mark) 0 w) (λ i w. few-single-by (digits (s .n)) (s .mark) 0 w) (s .readings .now) (at .loop .readings)
     (at .loop .changed) (at .loop .marked) (at .loop .clipped) (at .loop .missing) (at .loop .i) (at .loop .inv) (omega arith)
 
 pub digit-singles-spec : {M : Type 1} → statement M
@@ -104,13 +90,9 @@ digit-singles-spec =
     digit-single-requires
     mul-readings
     slice-write-readings
-    wide-requires
     add-changed
-    wide-requires-2
     add-marked
-    wide-requires-3
     add-clipped
-    wide-requires-4
     add-missing
     add-i
     loop-less

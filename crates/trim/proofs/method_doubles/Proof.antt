@@ -7,7 +7,8 @@ use Rattle.reading.specs.declared.Double.{Double}
 use Rattle.meaning.specs.Methods.{round, absolute, digits}
 use Rattle.asking.specs.Asked.{methodBy}
 use Rattle.trim.specs.Walk.{doublesLeft, doublesSummed}
-use Rattle.trim.proofs.Methods.{by-six, by-five, by-four, double-any, double-by-method}
+use Rattle.trim.proofs.Methods.{by-five, by-four, double-any, double-by-method}
+use Rattle.trim.proofs.Plans.{by-six}
 use Rattle.trim.proofs.Tails.{digits-placeless}
 use Rattle.trim.proofs.method_doubles.Statement.{statement}
 use Rattle.trim.proofs.method_doubles.Tie as tie

@@ -1,12 +1,12 @@
 -- By the plan's kind.
-use mathlib.Core.Path.{sym, ap, _∙_, subst}
+use mathlib.Core.Path.{refl, sym, ap, _∙_, subst}
 use Prim.Native.Nat.{ℕ, _-_, _^_, _<_}
 use Rattle.meaning.specs.Readings.{magnitude}
 use Rattle.reading.specs.declared.Single.{Single}
 use Rattle.reading.specs.Left.{singleFrom, wanted, tailAdded}
 use Rattle.trim.specs.Walk.{tailSingle}
 use Rattle.trim.proofs.Few.{add-below}
-use Rattle.trim.proofs.Planned.{is-tail, is-round, is-absolute}
+use Rattle.trim.proofs.Planned.{is-tail, is-round, is-digits, is-absolute}
 use Rattle.trim.proofs.planned_single.Statement.{statement}
 use Rattle.trim.proofs.planned_single.Tie as tie
 
@@ -35,14 +35,25 @@ returns-2 c =
     let s = c .before .before .before .before .before .args in
     c .round-single .ensures ∙ sym (ap (λ (f : ℕ → ℕ → Single). f (s .place) (s .x)) (is-round (s .plan) (s .mark) (c .before .if2 .taken)))
 
-coarse-single-requires : tie.Need-coarse-single-requires
-coarse-single-requires c κs = tt
+digit-single-requires : tie.Need-digit-single-requires
+digit-single-requires c κs =
+    let s = c .before .before .before .before .before .before .before in
+    let k = c .before .if3 .taken in
+    ((s .pre .some-digits k, s .pre .few-digits k), refl)
 
 returns-3 : tie.Need-returns-3
 returns-3 c =
-    let s = c .before .before .before .before .before .args in
+    let s = c .before .before .before .before .before .before .before .before .args in
+    c .digit-single .ensures ∙ sym (ap (λ (f : ℕ → ℕ → Single). f (s .place) (s .x)) (is-digits (s .plan) (s .mark) (c .before .before .if3 .taken)))
+
+coarse-single-requires : tie.Need-coarse-single-requires
+coarse-single-requires c κs = tt
+
+returns-4 : tie.Need-returns-4
+returns-4 c =
+    let s = c .before .before .before .before .before .before .before .args in
     c .coarse-single .ensures
-    ∙ sym (ap (λ (f : ℕ → ℕ → Single). f (s .place) (s .x)) (is-absolute (s .plan) (s .mark) (c .before .before .before .if1 .left) (c .before .if2 .left)))
+    ∙ sym (ap (λ (f : ℕ → ℕ → Single). f (s .place) (s .x)) (is-absolute (s .plan) (s .mark) (c .before .before .before .before .before .if1 .left) (c .before .before .before .if2 .left) (c .before .if3 .left)))
 
 pub planned-single-spec : {M : Type 1} → statement M
 planned-single-spec =
@@ -53,5 +64,7 @@ planned-single-spec =
     returns
     round-single-requires
     returns-2
+    digit-single-requires
+    returns-3
     coarse-single-requires
-    returns-3)
+    returns-4)
