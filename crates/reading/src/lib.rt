@@ -45,10 +45,10 @@ pub fn choose_double(a: u64, b: u64, yes: u64, no: u64) -> u64
 pub fn settle_single(x: u32, z: u32, over: u32, mark: u32) -> Single
     ensures { λ r. ⌜ r ≡ singleFrom mark x z over ⌝ }
 {
-    let y = choose_single(x, mark, x, z);
-    let p = choose_single(y, mark, x, y);
+    let hit = choose_single(z, mark, 1, 0);
+    let marked = choose_single(x, mark, 1, hit);
+    let p = choose_single(marked, 0, z, x);
     let changed = choose_single(p, x, 0, 1);
-    let marked = choose_single(y, mark, 1, 0);
     let clipped = choose_single(p, x, 0, over);
     let missing = choose_single(x, mark, 1, 0);
     Single {

@@ -1,5 +1,7 @@
--- Each choice is what the definition says, in turn.
-use Rattle.reading.specs.Left.{unlessMissing, leftFrom, singleFrom}
+-- The pattern and the mark's count by `left-from`; each other choice is what the definition says.
+use mathlib.Core.Path.{_∙_}
+use Rattle.reading.specs.Left.{singleFrom}
+use Rattle.reading.proofs.Words.{left-from}
 use Rattle.reading.proofs.settle_single.Statement.{statement}
 use Rattle.reading.proofs.settle_single.Tie as tie
 
@@ -22,8 +24,15 @@ choose-single-requires-6 : tie.Need-choose-single-requires-6
 choose-single-requires-6 c κs = tt
 
 returns : tie.Need-returns
-unfolding singleFrom leftFrom unlessMissing
-returns c = simp (c .choose-single6 .ensures, c .before .choose-single5 .ensures, c .before .before .choose-single4 .ensures, c .before .before .before .choose-single3 .ensures, c .before .before .before .before .choose-single2 .ensures, c .before .before .before .before .before .choose-single .ensures)
+unfolding singleFrom
+returns c =
+    let s = c .before .before .before .before .before .before .args in
+    let hit = c .before .before .before .before .before .choose-single in
+    let marked = c .before .before .before .before .choose-single2 in
+    let p = c .before .before .before .choose-single3 in
+    let left = left-from (s .mark) (s .x) (s .z) (hit .result) (marked .result) (hit .ensures) (marked .ensures) in
+    let pattern = p .ensures ∙ left .0 in
+    simp (c .choose-single6 .ensures, c .before .choose-single5 .ensures, c .before .before .choose-single4 .ensures, pattern, left .1)
 
 pub settle-single-spec : {M : Type 1} → statement M
 settle-single-spec = tie.close (tie.spec choose-single-requires choose-single-requires-2 choose-single-requires-3 choose-single-requires-4 choose-single-requires-5 choose-single-requires-6 returns)
