@@ -1,5 +1,5 @@
 -- What one reading counts for is 0 or 1 in each of the four; and the walk's laws for singles and for doubles.
-use mathlib.Core.Path.{_≡_, refl, ap, _∙_}
+use mathlib.Core.Path.{_≡_, refl, ap}
 use mathlib.Core.Bool.{Bool, true, false, cond}
 use mathlib.Core.List.{List}
 use Prim.Native.Nat.{ℕ, _+_, _%_, _≤_, _<_, zero-le}
@@ -12,7 +12,7 @@ use Rattle.reading.proofs.Words.{cond-lt}
 use Rattle.meaning.specs.Readings.{magnitude}
 use Rattle.meaning.specs.Methods.{Method, clips}
 use Rattle.reading.specs.Left.{unlessMissing, leftFrom, singleFrom, doubleFrom, wantedBy, over, singleBy, doubleBy}
-use Rattle.trim.specs.Walk.{addAt, singlesLeft, singlesSummed, singlesTotal, doublesLeft, doublesSummed}
+use Rattle.trim.specs.Walk.{addAt, singlesLeft, singlesSummed, doublesLeft, doublesSummed}
 use Rattle.trim.proofs.Walks.{Turn, start, turn, finish}
 
 bit-of : (b : Bool) (m n : ℕ) → m ≤ 1 → n ≤ 1 → cond b m n ≤ 1
@@ -69,24 +69,6 @@ module _ (f : ℕ → ℕ → Single) (few : (i w : ℕ) → FewSingle (f i w)) 
     single-finish h =
         let e = finish (λ i w. f i w .pattern) (λ i w. f i w .changed) (λ i w. f i w .marked) (λ i w. f i w .clipped) (λ i w. f i w .missing) all xs changed marked clipped missing i inv h in
         (rw (e .is-a, e .is-b, e .is-c, e .is-d) refl, e .left)
-
--- singles in wider counters
-module _ (f : ℕ → ℕ → Single) (few : (i w : ℕ) → FewSingle (f i w)) (all xs : List ℕ) (changed marked clipped missing i : ℕ) (inv : SingleTurn f all xs changed marked clipped missing i) where
-  pub single-turn-by : i < length xs → (r : Single) → r ≡ f i (getD xs i 0) → (a b c d : ℕ) → a ≡ r .changed → b ≡ r .marked → c ≡ r .clipped → d ≡ r .missing
-      → SingleTurn f all (set xs i (r .pattern)) (changed + a) (marked + b) (clipped + c) (missing + d) (i + 1)
-  single-turn-by h r e a b c d ea eb ec ed =
-      let o = few i (getD xs i 0) in
-      turn (λ i w. f i w .pattern) (λ i w. f i w .changed) (λ i w. f i w .marked) (λ i w. f i w .clipped) (λ i w. f i w .missing) all xs changed marked clipped missing i inv h
-      (record { a-bit = o .changed-few; b-bit = o .marked-few; c-bit = o .clipped-few; d-bit = o .missing-few })
-      (r .pattern) a b c d (ap (λ (s : Single). s .pattern) e)
-      (ea ∙ ap (λ (s : Single). s .changed) e) (eb ∙ ap (λ (s : Single). s .marked) e) (ec ∙ ap (λ (s : Single). s .clipped) e) (ed ∙ ap (λ (s : Single). s .missing) e)
-
-  pub single-total : length xs ≤ i
-      → (record { changed = changed; marked = marked; clipped = clipped; missing = missing } ≡ singlesTotal f all) × (xs ≡ singlesLeft f all)
-  unfolding singlesTotal singlesLeft
-  single-total h =
-      let e = finish (λ i w. f i w .pattern) (λ i w. f i w .changed) (λ i w. f i w .marked) (λ i w. f i w .clipped) (λ i w. f i w .missing) all xs changed marked clipped missing i inv h in
-      (rw (e .is-a, e .is-b, e .is-c, e .is-d) refl, e .left)
 
 -- doubles
 abbrev pub DoubleTurn : (ℕ → ℕ → Double) → List ℕ → List ℕ → ℕ → ℕ → ℕ → ℕ → ℕ → Type 0
