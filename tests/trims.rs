@@ -330,6 +330,13 @@ fn width(t: &mut Tally, form: &Form) {
                 array(t, form, job, &[], &[]);
                 if form.f == 23 { loader(t, form, job, &before, &after, [&models[0], &models[1]]); }
             }
+            // The same readings without the subnormal ones, and more of every exponent: long arrays of such may be trimmed in a way of their own.
+            let mut normal: Vec<u64> = before.iter().copied().filter(|x| x % form.sign == 0 || x % form.sign >= 1 << form.f).collect();
+            while !refused && normal.len() < 5000 {
+                normal.push(((1 + t.below((1 << form.e) - 1)) << form.f) + (t.random() >> (64 - form.f)) + form.sign * t.below(2));
+            }
+            let model = plain(form, job, &normal, false);
+            for mark in marks(t, form, &normal, &model) { array(t, form, Job { mark, ..job }, &normal, &model); }
         }
     }
     // Lengths around a block's, with missing readings strewn in, and with nothing else.
