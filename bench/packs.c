@@ -1,11 +1,11 @@
 /* Times packing and unpacking beside memcpy and beside branch-free C in double arithmetic, in one run. Prints ns a reading, and the ratio to that C. The C is this
  * file's own: it asks the same questions on the readings, is right on the readings below, and is checked against the library before anything is timed. */
 #include "../include/megharutti.h"
+#include "clock.h"
 #include <math.h>
 #include <stdio.h>
 #include <stdlib.h>
 #include <string.h>
-#include <time.h>
 
 enum { LAYER = 1000, TURNS = 25 };
 static const uint32_t mark32 = 0x7CF00000;
@@ -67,18 +67,6 @@ static uint32_t unpack(const uint16_t *codes, size_t n, const float *references,
         }
     }
     return 0;
-}
-
-static double now(void) {
-    struct timespec s;
-    clock_gettime(CLOCK_MONOTONIC, &s);
-    return s.tv_sec * 1e9 + s.tv_nsec;
-}
-
-static uint64_t seed = 88172645463325252;
-static uint64_t draw(void) {
-    seed ^= seed << 13, seed ^= seed >> 7, seed ^= seed << 17;
-    return seed;
 }
 
 /* One side's results: the library's or the C's. */

@@ -1,10 +1,10 @@
 /* Times each trim beside memcpy and beside branch-free C that rounds with a mark and four counts, in one run. Prints ns a reading, and the ratio to that C.
  * The C is this file's own, plain and fast, and is checked against the library's counts and patterns before anything is timed. */
 #include "../include/megharutti.h"
+#include "clock.h"
 #include <stdio.h>
 #include <stdlib.h>
 #include <string.h>
-#include <time.h>
 
 enum { KEEP = 7, TURNS = 25, WORKS = 9 };
 
@@ -50,18 +50,6 @@ static void round_doubles(uint64_t *w, size_t n, int k, uint64_t mark, uint64_t 
         d += gone;
     }
     counts[0] = a, counts[1] = b, counts[2] = c, counts[3] = d;
-}
-
-static double now(void) {
-    struct timespec s;
-    clock_gettime(CLOCK_MONOTONIC, &s);
-    return s.tv_sec * 1e9 + s.tv_nsec;
-}
-
-static uint64_t seed = 88172645463325252;
-static uint64_t draw(void) {
-    seed ^= seed << 13, seed ^= seed >> 7, seed ^= seed << 17;
-    return seed;
 }
 
 static const char *name[] = {"shave", "set", "groom", "halfshave", "round", "absolute", "digits"};

@@ -16,6 +16,7 @@ use Rattle.meaning.proofs.Powers.{pow-split}
 use Rattle.meaning.proofs.Sizes.{Form, form, size-form, size-small}
 use Rattle.meaning.proofs.Patterns.{below-finite, size-below, position-plus, position-minus}
 use Rattle.absolute.proofs.Fine.{offset-value}
+use Rattle.unpacking.proofs.Codes.{sign-plus, sign-minus}
 use Rattle.unpacking.proofs.References.{bits-value}
 use Rattle.codes.specs.Cut.{CanCode}
 use Rattle.quick.specs.Coarse.{Coarse}
@@ -65,14 +66,6 @@ minus-whole j a b n e u v =
     less x y g n h = omega (arith, mul-comm (x - y) g, mul-sub g x y, mul-comm g x, mul-comm g y)
 
 -- ---- two readings
-
-sign-plus : (w : ℕ) → leb (2 ^ 31) w ≡ false → sign 23 8 w ≡ 0
-unfolding sign
-sign-plus w e = omega (arith, leb-false (2 ^ 31) w e)
-
-sign-minus : (w : ℕ) → leb (2 ^ 31) w ≡ true → sign 23 8 w ≢ 0
-unfolding sign
-sign-minus w e z = omega (arith, leb-true (2 ^ 31) w e)
 
 module _ (w r e : ℕ) (c : CanCode w r e) (fr : magnitude 23 8 r < infinity 23 8) (few : e ≤ 263) (cw : Coarse (e - 37) w) (cr : Coarse (e - 37) r) where
   abbrev a : ℕ

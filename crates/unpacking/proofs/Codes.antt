@@ -33,11 +33,11 @@ unfolding pattern
 sign-above true m = refl
 sign-above false m = refl
 
-sign-plus : (w : ℕ) → leb (2 ^ 31) w ≡ false → sign 23 8 w ≡ 0
+pub sign-plus : (w : ℕ) → leb (2 ^ 31) w ≡ false → sign 23 8 w ≡ 0
 unfolding sign
 sign-plus w e = omega (arith, leb-false (2 ^ 31) w e)
 
-sign-minus : (w : ℕ) → leb (2 ^ 31) w ≡ true → sign 23 8 w ≢ 0
+pub sign-minus : (w : ℕ) → leb (2 ^ 31) w ≡ true → sign 23 8 w ≢ 0
 unfolding sign
 sign-minus w e z = omega (arith, leb-true (2 ^ 31) w e)
 

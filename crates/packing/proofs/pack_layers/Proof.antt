@@ -54,7 +54,7 @@ pack-layer-requires c κs =
     let at = c .before .before in
     let i = at .before .loop .inv in
     let s = at .before .before .before .before .before in
-    (rw (length-take, length-drop, length-take, length-drop) (omega (arith, i .fit .as-many, i .codes-long)), part-packable _ _ (at .before .loop .from) (at .before .loop .from + s .args .run - at .before .loop .from) (omega (arith, fits at)) (s .pre .1))
+    (rw (length-take, length-drop, length-take, length-drop) (omega (arith, fits at, i .fit .as-many, i .codes-long)), part-packable _ _ (at .before .loop .from) (at .before .loop .from + s .args .run - at .before .loop .from) (omega (arith, fits at)) (s .pre .1))
 
 mul-references : tie.Need-mul-references Inv-loop μ-loop
 mul-references c = search needs
