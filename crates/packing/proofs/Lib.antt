@@ -1,4 +1,4 @@
-pub mod Steep
+pub mod Largest
 pub mod One
 pub mod Ready
 pub mod Cases

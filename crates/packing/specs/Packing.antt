@@ -12,9 +12,9 @@ use Rattle.meaning.specs.Calls.{storedExponent}
 use Rattle.packing.specs.declared.Layer.{Layer}
 
 -- the largest magnitude of the present readings
-unfoldable pub steepest : ℕ → List ℕ → ℕ
-steepest mark [] = 0
-steepest mark (w ∷ ws) = max (cond (eqb w mark) 0 (w % 2147483648)) (steepest mark ws)
+unfoldable pub largestPresent : ℕ → List ℕ → ℕ
+largestPresent mark [] = 0
+largestPresent mark (w ∷ ws) = max (cond (eqb w mark) 0 (w % 2147483648)) (largestPresent mark ws)
 
 -- the code where a layer has one value or none
 unfoldable pub flatCode : ℕ → ℕ → ℕ

@@ -11,7 +11,7 @@ ghost use Rattle.meaning.specs.Layers.{Spread, summary, code, layerOf, packedCo
 ghost use Rattle.meaning.specs.Questions.{all};
 ghost use Rattle.summary.specs.Summaries.{Packable};
 ghost use Rattle.packing.specs.Answers.{answerOf, packed};
-ghost use Rattle.packing.specs.Packing.{steepest, flatCode, One, PackedAs, Fit, packedReferences, packedExponents};
+ghost use Rattle.packing.specs.Packing.{largestPresent, flatCode, One, PackedAs, Fit, packedReferences, packedExponents};
 
 pub enum Packed {
     Done,
@@ -26,7 +26,7 @@ pub struct Layer {
 
 // The largest magnitude of the present readings, 0 where none is present.
 fn largest_magnitude(readings: &[u32], mark: u32) -> u32
-    ensures { λ r. ⌜ r ≡ steepest mark (now (readings .entry)) ⌝ }
+    ensures { λ r. ⌜ r ≡ largestPresent mark (now (readings .entry)) ⌝ }
 {
     let mut most: u32 = 0;
     let mut i: usize = 0;

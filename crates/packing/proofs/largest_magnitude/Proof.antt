@@ -2,7 +2,7 @@ use borrow.Author.Needs.{needs}
 use Prim.Native.Nat.{_-_}
 use lib.ListN.{length}
 use native.Mathlib.Omega.{arith}
-use Rattle.packing.proofs.Steep.{Turn, turn, end}
+use Rattle.packing.proofs.Largest.{Turn, turn, end}
 use Rattle.packing.proofs.largest_magnitude.Statement.{statement}
 use Rattle.packing.proofs.largest_magnitude.Tie as tie
 

@@ -12,7 +12,7 @@ use lib.ListN.{length, getD, drop, drop-of-length-le}
 use lib.Seq.{drop-cons}
 use Rattle.meaning.specs.Readings.{magnitude, infinity, finite, missing}
 use Rattle.meaning.specs.Questions.{all}
-use Rattle.packing.specs.Packing.{steepest}
+use Rattle.packing.specs.Packing.{largestPresent}
 
 -- both of two numbers are below a third where the larger is
 max-below : (a b n : ℕ) → ltb (max a b) n ≡ ltb a n && ltb b n
@@ -39,23 +39,23 @@ one mark w = go (ℕ-discrete w mark)
     go (yes e) = rw (eq-eqb w mark e, or-true (ltb (w % 2147483648) 2139095040)) refl
     go (no e) = rw (ne-eqb w mark e, or-false (ltb (w % 2147483648) 2139095040)) refl
 
-pub steep : (mark : ℕ) (ws : List ℕ) → ltb (steepest mark ws) 2139095040 ≡ all (λ w. finite 23 8 w || missing mark w) ws
-unfolding steepest all
-steep mark [] = refl
-steep mark (w ∷ ws) =
-    max-below (cond (eqb w mark) 0 (w % 2147483648)) (steepest mark ws) 2139095040
-    ∙ ap (λ (b : Bool). b && ltb (steepest mark ws) 2139095040) (one mark w) ∙ ap (λ (b : Bool). (finite 23 8 w || missing mark w) && b) (steep mark ws)
+pub all-finite : (mark : ℕ) (ws : List ℕ) → ltb (largestPresent mark ws) 2139095040 ≡ all (λ w. finite 23 8 w || missing mark w) ws
+unfolding largestPresent all
+all-finite mark [] = refl
+all-finite mark (w ∷ ws) =
+    max-below (cond (eqb w mark) 0 (w % 2147483648)) (largestPresent mark ws) 2139095040
+    ∙ ap (λ (b : Bool). b && ltb (largestPresent mark ws) 2139095040) (one mark w) ∙ ap (λ (b : Bool). (finite 23 8 w || missing mark w) && b) (all-finite mark ws)
 
 -- ---- the loop: what the rest of the readings adds
 
 abbrev pub Turn : ℕ → List ℕ → ℕ → ℕ → Type 0
-Turn mark xs most i = max most (steepest mark (drop i xs)) ≡ steepest mark xs
+Turn mark xs most i = max most (largestPresent mark (drop i xs)) ≡ largestPresent mark xs
 
 pub turn : (mark : ℕ) (xs : List ℕ) (most i m new : ℕ) → i < length xs → m ≡ cond (eqb (getD xs i 0) mark) 0 (getD xs i 0 % 2147483648) → new ≡ max m most → Turn mark xs most i
     → Turn mark xs new (i + 1)
-unfolding steepest
+unfolding largestPresent
 turn mark xs most i m new h e n inv = rw add-one (omega (arith, rw (drop-cons xs i 0 h, ← e) at inv))
 
-pub end : (mark : ℕ) (xs : List ℕ) (most i : ℕ) → length xs ≤ i → Turn mark xs most i → most ≡ steepest mark xs
-unfolding steepest
+pub end : (mark : ℕ) (xs : List ℕ) (most i : ℕ) → length xs ≤ i → Turn mark xs most i → most ≡ largestPresent mark xs
+unfolding largestPresent
 end mark xs most i h inv = omega (arith, rw (drop-of-length-le xs h) at inv)
