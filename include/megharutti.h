@@ -44,6 +44,33 @@
 extern "C" {
 #endif
 
+/* The methods. */
+enum megharutti_method {
+    MEGHARUTTI_SHAVE = 0,
+    MEGHARUTTI_SET = 1,
+    MEGHARUTTI_GROOM = 2,
+    MEGHARUTTI_HALFSHAVE = 3,
+    MEGHARUTTI_ROUND = 4,
+    MEGHARUTTI_ABSOLUTE = 5,
+    MEGHARUTTI_DIGITS = 6
+};
+
+/* What an array call answers: 0, or the refusal's number. */
+enum megharutti_answer {
+    MEGHARUTTI_ACCEPTED = 0,
+    MEGHARUTTI_METHOD_UNKNOWN = 1,
+    MEGHARUTTI_SETTING_OUT_OF_RANGE = 2,
+    MEGHARUTTI_LENGTH_OUT_OF_RANGE = 3,
+    MEGHARUTTI_NO_WHOLE_LAYERS = 4,
+    MEGHARUTTI_ARRAY_OF_WRONG_LENGTH = 5,
+    MEGHARUTTI_READING_NOT_FINITE = 6,
+    MEGHARUTTI_LAYER_NOT_KNOWN = 7,
+    MEGHARUTTI_MARK_NOT_NAN = 8
+};
+
+/* The code of a missing reading. */
+#define MEGHARUTTI_MISSING_CODE 65535
+
 /* Trims n readings in place. Answers 0 and writes the places changed, spared, clipped and missing to `counts`; or answers the refusal's
  * number, and neither the readings nor `counts` are written. */
 uint32_t megharutti_trim_singles(uint32_t *readings, size_t n, uint32_t method, int32_t setting, uint32_t mark, uint64_t counts[4]);

@@ -1,0 +1,48 @@
+/* As a loader of the archive would: a reading is trimmed as it comes in, and an array of them at once. Built by
+ *     gcc examples/loader.c target/staticlib/libcapi.a -o target/loader
+ */
+#include "../include/megharutti.h"
+#include <inttypes.h>
+#include <stdio.h>
+#include <string.h>
+
+static uint32_t pattern(float reading) {
+    uint32_t bits;
+    memcpy(&bits, &reading, sizeof bits);
+    return bits;
+}
+
+static float value(uint32_t bits) {
+    float reading;
+    memcpy(&reading, &bits, sizeof reading);
+    return reading;
+}
+
+int main(void) {
+    const uint32_t mark = 0x7CF00000; /* the network's mark for a missing reading */
+
+    /* One reading, to 7 keep bits. An answer from 2^32 on is a refusal. */
+    uint64_t one = megharutti_trim_single(pattern(3.14159274f), MEGHARUTTI_ROUND, 7, mark, 0);
+    if (one >> 32)
+        return printf("refused, %" PRIu64 "\n", one - (UINT64_C(1) << 32)), 1;
+    printf("one reading: %08" PRIX32 ", %.7g\n", (uint32_t)one, value((uint32_t)one));
+
+    /* An array, to the nearest eighth. */
+    uint32_t rain[] = {pattern(0.0f), pattern(0.2f), mark, pattern(12.3f), pattern(3.4e38f)};
+    const size_t n = sizeof rain / sizeof *rain;
+    uint64_t counts[4];
+    uint32_t answer = megharutti_trim_singles(rain, n, MEGHARUTTI_ABSOLUTE, -3, mark, counts);
+    if (answer != MEGHARUTTI_ACCEPTED)
+        return printf("refused, %" PRIu32 "\n", answer), 1;
+    for (size_t i = 0; i < n; i++)
+        if (rain[i] == mark)
+            puts("missing");
+        else
+            printf("%08" PRIX32 ", %.7g\n", rain[i], value(rain[i]));
+    printf("changed %" PRIu64 ", spared %" PRIu64 ", clipped %" PRIu64 ", missing %" PRIu64 "\n", counts[0], counts[1], counts[2], counts[3]);
+
+    /* A setting out of range is refused, and the array is as it was. */
+    answer = megharutti_trim_singles(rain, n, MEGHARUTTI_ROUND, 24, mark, counts);
+    printf("keep bits 24: refused, %" PRIu32 "\n", answer);
+    return 0;
+}
