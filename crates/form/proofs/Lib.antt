@@ -1,0 +1,4 @@
+-- Laws of the text.
+pub mod Reading
+pub mod CasesRows
+pub mod Cases
