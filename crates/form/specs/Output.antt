@@ -92,6 +92,11 @@ output j =
     ++ (bytes "changed,spared,clipped,missing\n"
     ++ countsLines (trimmedSeries j)))
 
+-- "A refusal prints only `refused,` with its number and a newline."
+unfoldable pub printed : Outcome (List ℕ) → List ℕ
+printed (refused n) = bytes "refused," ++ (decimal n ++ bytes "\n")
+printed (accepted t) = t
+
 -- ---- the questions
 
 -- "is the method 0 to 6, or its word known? No: 1", "is the setting in range? No: 2"
@@ -102,11 +107,6 @@ jobOutcome j = answering (trimQuestions 23 8 (jobMethod j) (jobSetting j)) (λ _
 unfoldable pub readOutcome : Got Job → Outcome (List ℕ)
 readOutcome (got j s) = jobOutcome j
 readOutcome bad = refused 9
-
--- "A refusal prints only `refused,` with its number and a newline."
-unfoldable pub printed : Outcome (List ℕ) → List ℕ
-printed (refused n) = bytes "refused," ++ (decimal n ++ bytes "\n")
-printed (accepted t) = t
 
 -- what trimlist prints for a text
 unfoldable pub listed : List ℕ → List ℕ
