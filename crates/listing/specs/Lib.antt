@@ -1,0 +1,2 @@
+-- What the answers of the readers and writers say of a text.
+pub mod Places
