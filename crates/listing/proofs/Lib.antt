@@ -7,3 +7,4 @@ pub mod Series
 pub mod NameLaws
 pub mod ParseLaws
 pub mod PutLaws
+pub mod WordLaws
