@@ -1,5 +1,6 @@
 // The text of trimlist, read and written at places of slices. A text is read byte by byte, and its values go to a work area of 8 parts of 512, one for each series.
-// A reader answers what stands from a place on, with the next place, or that it doesn't have the form; a writer lays bytes over a slice from a place on.
+// A reader answers what stands from a place on, with the next place, or that it doesn't have the form; a writer lays bytes over a slice from a place on. Internal: parts of the
+// program to come.
 ghost use mathlib.Core.Path.{_≡_};
 ghost use mathlib.Core.Bool.{true, false};
 ghost use mathlib.Core.List.{[], _∷_, map};
