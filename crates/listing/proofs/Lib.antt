@@ -8,3 +8,4 @@ pub mod NameLaws
 pub mod ParseLaws
 pub mod PutLaws
 pub mod WordLaws
+pub mod FieldLaws

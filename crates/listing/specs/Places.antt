@@ -6,8 +6,8 @@ use mathlib.Core.List.{List, [], _∷_, _++_}
 use lib.IntN.{ℤ}
 use lib.ListN.{length, take, drop, set, getD}
 use Rattle.form.specs.Form.{isDigit, JobValues}
-use Rattle.form.specs.Parse.{Got, got, bad, then, readRun, readSign, readRow, readRows, readNames, readJobValues, parse}
-use Rattle.form.specs.Output.{numberOf, settingOf}
+use Rattle.form.specs.Parse.{ending, Got, got, bad, then, readRun, readSign, readRow, readRows, readNames, readJobValues, parse}
+use Rattle.form.specs.Output.{decimal, numberOf, settingOf}
 use Rattle.listing.specs.declared.Pattern.{Pattern}
 use Rattle.listing.specs.declared.Pattern.the-variants.{At, Bad}
 use Rattle.listing.specs.declared.Number.{Number}
@@ -135,3 +135,7 @@ paste l at w = take at l ++ (w ++ drop (at + length w) l)
 unfoldable pub gather : List ℕ → ℕ → ℕ → List ℕ
 gather w q zero = []
 gather w q (suc n) = getD w q 0 ∷ gather w (q + 512) n
+
+-- a number in decimal, and the byte after it with n more fields on its line
+abbrev pub field : ℕ → ℕ → List ℕ
+field v n = decimal v ++ (ending n ∷ [])

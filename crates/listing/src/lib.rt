@@ -9,7 +9,7 @@ ghost use lib.ListN.{length, take, drop};
 ghost use Rattle.form.specs.Form.{hexChar, hexText, isLetter, isDigit, header, line, pattern};
 ghost use Rattle.form.specs.Parse.{digitOf, readPattern, runOf, Got, skip, ending};
 ghost use Rattle.form.specs.Output.{sameWord, methodNumber, decimal};
-ghost use Rattle.listing.specs.Places.{patternGot, paste, readNumber, numberGot, NumberSmall, readSetting, settingGot, RowsRead, NamesRead, headerGot, StartRead, TextRead, gather, skipGot, RowRead};
+ghost use Rattle.listing.specs.Places.{patternGot, paste, readNumber, numberGot, NumberSmall, readSetting, settingGot, RowsRead, NamesRead, headerGot, StartRead, TextRead, gather, field, skipGot, RowRead};
 
 // ---- reading
 
@@ -545,4 +545,31 @@ pub fn put_line(out: &mut [u8], at: usize, n: usize, i: usize, work: &[u32]) -> 
         j += 1;
     }
     p
+}
+
+// The bytes of `source` from `at` on; the place after them.
+pub fn put_bytes(out: &mut [u8], at: usize, source: &[u8]) -> usize
+    requires { ⌜ at + length (now source) ≤ length (now out) ⌝ }
+    ensures { λ r. ⌜ r ≡ at + length (now (source .entry)) ⌝ }
+    ensures { λ _. ⌜ now (out .exit) ≡ paste (now (out .entry)) at (now (source .entry)) ⌝ }
+{
+    let mut i: usize = 0;
+    while i < source.len() {
+        let p = at + i;
+        out[p] = source[i];
+        i += 1;
+    }
+    at + i
+}
+
+// A number below 1000 and the byte after it, with `left` more fields on its line; the place after them.
+pub fn put_field(out: &mut [u8], at: usize, n: usize, left: usize) -> usize
+    requires { ⌜ (n < 1000) × (at + 4 ≤ length (now out)) ⌝ }
+    ensures { λ r. ⌜ r ≡ at + length (field n left) ⌝ }
+    ensures { λ _. ⌜ now (out .exit) ≡ paste (now (out .entry)) at (field n left) ⌝ }
+{
+    let p = put_number(out, at, n);
+    let c = ending_byte(left);
+    out[p] = c;
+    p + 1
 }
