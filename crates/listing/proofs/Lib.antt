@@ -9,3 +9,4 @@ pub mod ParseLaws
 pub mod PutLaws
 pub mod WordLaws
 pub mod FieldLaws
+pub mod LaidLaws

@@ -139,3 +139,8 @@ gather w q (suc n) = getD w q 0 ∷ gather w (q + 512) n
 -- a number in decimal, and the byte after it with n more fields on its line
 abbrev pub field : ℕ → ℕ → List ℕ
 field v n = decimal v ++ (ending n ∷ [])
+
+-- m lines of n values, the first from place i, i + 512 ..
+unfoldable pub gathered : List ℕ → ℕ → ℕ → ℕ → List (List ℕ)
+gathered w n i zero = []
+gathered w n i (suc m) = gather w i n ∷ gathered w n (suc i) m

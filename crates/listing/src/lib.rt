@@ -6,10 +6,10 @@ ghost use mathlib.Core.Bool.{true, false};
 ghost use mathlib.Core.List.{[], _∷_, map};
 ghost use Prim.Native.Nat.{_+_, _*_, _<_, _≤_};
 ghost use lib.ListN.{length, take, drop};
-ghost use Rattle.form.specs.Form.{hexChar, hexText, isLetter, isDigit, header, line, pattern};
+ghost use Rattle.form.specs.Form.{hexChar, hexText, isLetter, isDigit, header, line, pattern, valueLines};
 ghost use Rattle.form.specs.Parse.{digitOf, readPattern, runOf, Got, skip, ending};
 ghost use Rattle.form.specs.Output.{sameWord, methodNumber, decimal};
-ghost use Rattle.listing.specs.Places.{patternGot, paste, readNumber, numberGot, NumberSmall, readSetting, settingGot, RowsRead, NamesRead, headerGot, StartRead, TextRead, gather, field, skipGot, RowRead};
+ghost use Rattle.listing.specs.Places.{patternGot, paste, readNumber, numberGot, NumberSmall, readSetting, settingGot, RowsRead, NamesRead, headerGot, StartRead, TextRead, gather, gathered, field, skipGot, RowRead};
 
 // ---- reading
 
@@ -572,4 +572,38 @@ pub fn put_field(out: &mut [u8], at: usize, n: usize, left: usize) -> usize
     let c = ending_byte(left);
     out[p] = c;
     p + 1
+}
+
+// The line of a series' four counts from `at` on; the place after it.
+pub fn put_counts(
+    out: &mut [u8],
+    at: usize,
+    changed: usize,
+    spared: usize,
+    clipped: usize,
+    missing: usize,
+) -> usize
+    requires { ⌜ (changed < 1000) × (spared < 1000) × (clipped < 1000) × (missing < 1000) × (at + 16 ≤ length (now out)) ⌝ }
+    ensures { λ r. ⌜ r ≡ at + length (line (map decimal (changed ∷ spared ∷ clipped ∷ missing ∷ []))) ⌝ }
+    ensures { λ _. ⌜ now (out .exit) ≡ paste (now (out .entry)) at (line (map decimal (changed ∷ spared ∷ clipped ∷ missing ∷ []))) ⌝ }
+{
+    let p = put_field(out, at, changed, 3);
+    let q = put_field(out, p, spared, 2);
+    let r = put_field(out, q, clipped, 1);
+    put_field(out, r, missing, 0)
+}
+
+// The first `lines` lines of the work area from `at` on, with room for 72 bytes each; the place after them.
+pub fn put_lines(out: &mut [u8], at: usize, n: usize, lines: usize, work: &[u32]) -> usize
+    requires { ⌜ (n ≤ 8) × (lines ≤ 512) × (length (now work) ≡ 4096) × (at + 72 * lines ≤ length (now out)) ⌝ }
+    ensures { λ r. ⌜ r ≡ at + length (valueLines (gathered (now (work .entry)) n 0 lines)) ⌝ }
+    ensures { λ _. ⌜ now (out .exit) ≡ paste (now (out .entry)) at (valueLines (gathered (now (work .entry)) n 0 lines)) ⌝ }
+{
+    let mut i: usize = 0;
+    let mut p: usize = at;
+    while i < lines {
+        p = put_line(out, p, n, i, work);
+        i += 1;
+    }
+    p
 }
