@@ -251,5 +251,6 @@ module _ (t : List ℕ) (at n : ℕ) (e : n ≡ length (runOf isLetter 16 (drop 
               word = refl;
               setting = x .value;
               marked = refl;
+              inside = let b = byte-within t (at + n) 44 tt (drop (at + n + 1) t) f in omega arith;
               within = let b = byte-within t (p + 1 + 8) 10 tt (drop (p + 1 + 8 + 1) t) j in omega arith;
             }

@@ -4,8 +4,9 @@ use native.Mathlib.Omega.{arith}
 use mathlib.Core.Path.{_≡_, refl, ap, _∙_}
 use mathlib.Core.List.{List, []}
 use lib.IntN.{ℤ}
-use lib.ListN.{length, drop, length-append}
-use Rattle.form.specs.Form.{bytes, JobValues, Job, header}
+use lib.ListN.{length, take, drop, length-append, length-drop}
+use lib.Seq.{take-at}
+use Rattle.form.specs.Form.{bytes, JobValues, Job, line, header}
 use Rattle.form.specs.Parse.{Got, got, bad, then, skip, readJobValues, readNames, readRows, parse}
 use Rattle.listing.specs.Places.{StartAt, NamesAt, RowsAt, TextAt}
 use Rattle.form.proofs.Reading.{skip-sound, names-sound}
@@ -16,6 +17,16 @@ header-long t r e = let a = ap length (skip-sound header t tt r e) ∙ length-ap
 
 pub names-few : (t : List ℕ) (at k next : ℕ) → NamesAt t at k next → k ≤ 8
 names-few t at k next x = let a = names-sound 8 (drop at t) (x .names) (drop next t) (x .read) .few in let b = x .count in omega arith
+
+-- the names' line
+names-line : (t : List ℕ) (p k q : ℕ) (y : NamesAt t p k q) → p ≤ length t → (p ≤ q) × (take (q - p) (drop p t) ≡ line (y .names))
+names-line t p k q y h =
+    let a = names-sound 8 (drop p t) (y .names) (drop q t) (y .read) .text in
+    let b = ap length a ∙ length-append (line (y .names)) (drop q t) in
+    let c = length-drop p t in
+    let d = length-drop q t in
+    let e = y .within in
+    (omega arith, ap (take (q - p)) a ∙ take-at (line (y .names)) (drop q t) (q - p) (omega arith))
 
 abbrev tailRows : JobValues → List (List ℕ) → List ℕ → Got Job
 tailRows h ns s = then (readRows 512 (length ns) s) (λ rs s. got (record { values = h; names = ns; rows = rs }) s)
@@ -57,7 +68,7 @@ module _ (t : List ℕ) (e : skip header t ≡ got tt (drop 20 t)) where
       pub text-rowless : readRows 512 k (drop q t) ≡ bad → parse t ≡ bad
       text-rowless f = named ∙ ap (λ (g : Got (List (List ℕ))). then g (λ rs s. got (record { values = x .values; names = y .names; rows = rs }) s)) (by-count (drop q t) bad f)
 
-      pub text-done : (w w' : List ℕ) (i : ℕ) → RowsAt t q k w w' i → TextAt t w w' n z m p k i
+      pub text-done : (w w' : List ℕ) (i : ℕ) → RowsAt t q k w w' i → TextAt t w w' n z m p q k i
       text-done w w' i u = record {
         values = x .values;
         series = y .names;
@@ -66,6 +77,10 @@ module _ (t : List ℕ) (e : skip header t ≡ got tt (drop 20 t)) where
         word = x .word;
         setting = x .setting;
         marked = x .marked;
+        inside = x .inside;
+        named = names-line t p k q y (x .within) .1;
+        ordered = names-line t p k q y (x .within) .0;
+        within = y .within;
         counted = y .count;
         lined = u .count;
         stored = u .stored;

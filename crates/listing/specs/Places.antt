@@ -1,11 +1,11 @@
 -- Reading and writing at a place: what a reader's answer says of the text from that place on, and a run of bytes laid over others.
-use Prim.Native.Nat.{ℕ, zero, suc, _+_, _≤_, _<_}
+use Prim.Native.Nat.{ℕ, zero, suc, _+_, _-_, _≤_, _<_}
 use mathlib.Core.Path.{_≡_}
 use mathlib.Core.Bool.{Bool, true, false}
 use mathlib.Core.List.{List, [], _∷_, _++_}
 use lib.IntN.{ℤ}
 use lib.ListN.{length, take, drop, set, getD}
-use Rattle.form.specs.Form.{isDigit, JobValues}
+use Rattle.form.specs.Form.{line, isDigit, JobValues}
 use Rattle.form.specs.Parse.{ending, Got, got, bad, then, readRun, readSign, readRow, readRows, readNames, readJobValues, parse}
 use Rattle.form.specs.Output.{decimal, numberOf, settingOf}
 use Rattle.listing.specs.declared.Pattern.{Pattern}
@@ -104,14 +104,15 @@ pub record StartAt (t : List ℕ) (at n : ℕ) (z : ℤ) (mark next : ℕ) : Typ
   pub word : values .word ≡ take n (drop at t)
   pub setting : settingOf (values .minus) (values .digits) ≡ z
   pub marked : values .mark ≡ mark
+  pub inside : at + n ≤ length t
   pub within : next ≤ length t
 
 abbrev pub StartRead : List ℕ → ℕ → Start → Type 0
 StartRead t at (Job n z mark next) = StartAt t at n z mark next
 StartRead t at NoJob = readJobValues (drop at t) ≡ bad
 
--- the whole text: its names stand at `names`
-pub record TextAt (t w w' : List ℕ) (letters : ℕ) (z : ℤ) (mark names count lines : ℕ) : Type 0 where
+-- the whole text: its names' line stands from `names` to `first`, where the lines of values begin
+pub record TextAt (t w w' : List ℕ) (letters : ℕ) (z : ℤ) (mark names first count lines : ℕ) : Type 0 where
   pub values : JobValues
   pub series : List (List ℕ)
   pub rows : List (List ℕ)
@@ -119,12 +120,16 @@ pub record TextAt (t w w' : List ℕ) (letters : ℕ) (z : ℤ) (mark names coun
   pub word : values .word ≡ take letters (drop 20 t)
   pub setting : settingOf (values .minus) (values .digits) ≡ z
   pub marked : values .mark ≡ mark
+  pub inside : 20 + letters ≤ length t
+  pub named : take (first - names) (drop names t) ≡ line series
+  pub ordered : names ≤ first
+  pub within : first ≤ length t
   pub counted : length series ≡ count
   pub lined : length rows ≡ lines
   pub stored : w' ≡ spreadAll w 0 rows
 
 abbrev pub TextRead : List ℕ → List ℕ → List ℕ → Reading → Type 0
-TextRead t w w' (Good letters z mark names count lines) = TextAt t w w' letters z mark names count lines
+TextRead t w w' (Good letters z mark names first count lines) = TextAt t w w' letters z mark names first count lines
 TextRead t w w' Wrong = parse t ≡ bad
 
 -- l with the bytes of w from `at` on

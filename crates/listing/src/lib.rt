@@ -356,13 +356,15 @@ pub fn rows_at(s: &[u8], at: usize, n: usize, work: &mut [u32]) -> Rows
     Rows::Lines(i)
 }
 
-// What a text of the form holds: the letters of its method word, its setting and mark, the place of its names, how many series and lines; or that it has not the form.
+// What a text of the form holds: the letters of its method word, its setting and mark, the places of its names and of its first
+// line of values, how many series and lines there are; or that it doesn't have the form.
 pub enum Reading {
     Good {
         letters: usize,
         setting: i32,
         mark: u32,
         names: usize,
+        first: usize,
         count: usize,
         lines: usize,
     },
@@ -395,6 +397,7 @@ pub fn read_text(s: &[u8], work: &mut [u32]) -> Reading
                                     setting,
                                     mark,
                                     names,
+                                    first: next,
                                     count,
                                     lines,
                                 };
