@@ -8,10 +8,11 @@ use mathlib.Core.List.{List, [], _∷_, _++_, map, append-assoc, append-nil}
 use lib.ListN.{length, getD, length-append}
 use Rattle.form.specs.Form.{line, after, pattern, valueLines}
 use Rattle.form.specs.Parse.{ending}
-use Rattle.form.specs.Output.{decimal}
-use Rattle.listing.specs.Places.{paste, field, gather, gathered}
+use Rattle.form.specs.Output.{columns, decimal}
+use Rattle.listing.specs.Places.{paste, field, gather, gathered, areaSeries}
 use Rattle.listing.proofs.Walk.{paste-none, length-paste, length-hex}
 use Rattle.listing.proofs.PutLaws.{paste-paste}
+use Rattle.listing.proofs.Series.{area-lines}
 use Rattle.listing.proofs.FieldLaws.{decimal-short}
 
 -- w was laid over l from `at` on, which gave m, and p is the place after it
@@ -140,9 +141,10 @@ module _ (l₀ : List ℕ) (at n lines : ℕ) (work l : List ℕ) (i p : ℕ) (x
             ∙ x .same;
       }
 
-  pub lines-done : lines ≤ i → (p ≡ at + length (valueLines (gathered work n 0 lines))) × (l ≡ paste l₀ at (valueLines (gathered work n 0 lines)))
+  pub lines-done : lines ≤ i → (p ≡ at + length (valueLines (columns lines (areaSeries work n lines)))) × (l ≡ paste l₀ at (valueLines (columns lines (areaSeries work n lines))))
   unfolding gathered
   lines-done h =
       let b = x .low in
       let e : x .text ≡ valueLines (gathered work n 0 lines) = sym (append-nil (x .text)) ∙ ap (λ (k : ℕ). x .text ++ valueLines (gathered work n i k)) {x = 0} {y = lines - i} (omega arith) ∙ x .same in
-      (x .laid .place ∙ ap (λ (y : List ℕ). at + length y) e, x .laid .stored ∙ ap (paste l₀ at) e)
+      let f : x .text ≡ valueLines (columns lines (areaSeries work n lines)) = e ∙ ap valueLines (area-lines work n lines) in
+      (x .laid .place ∙ ap (λ (y : List ℕ). at + length y) f, x .laid .stored ∙ ap (paste l₀ at) f)

@@ -1,13 +1,13 @@
 -- Reading and writing at a place: what a reader's answer says of the text from that place on, and a run of bytes laid over others.
-use Prim.Native.Nat.{ℕ, zero, suc, _+_, _-_, _≤_, _<_}
+use Prim.Native.Nat.{ℕ, zero, suc, _+_, _-_, _*_, _≤_, _<_}
 use mathlib.Core.Path.{_≡_}
 use mathlib.Core.Bool.{Bool, true, false}
-use mathlib.Core.List.{List, [], _∷_, _++_}
+use mathlib.Core.List.{List, [], _∷_, _++_, map}
 use lib.IntN.{ℤ}
 use lib.ListN.{length, take, drop, set, getD}
 use Rattle.form.specs.Form.{line, isDigit, JobValues}
 use Rattle.form.specs.Parse.{ending, Got, got, bad, then, readRun, readSign, readRow, readRows, readNames, readJobValues, parse}
-use Rattle.form.specs.Output.{decimal, numberOf, settingOf}
+use Rattle.form.specs.Output.{decimal, upTo, numberOf, settingOf}
 use Rattle.listing.specs.declared.Pattern.{Pattern}
 use Rattle.listing.specs.declared.Pattern.the-variants.{At, Bad}
 use Rattle.listing.specs.declared.Number.{Number}
@@ -110,6 +110,10 @@ pub record StartAt (t : List ℕ) (at n : ℕ) (z : ℤ) (mark next : ℕ) : Typ
 abbrev pub StartRead : List ℕ → ℕ → Start → Type 0
 StartRead t at (Job n z mark next) = StartAt t at n z mark next
 StartRead t at NoJob = readJobValues (drop at t) ≡ bad
+
+-- the series in the work area: n parts of 512 places, the first m of each
+abbrev pub areaSeries : List ℕ → ℕ → ℕ → List (List ℕ)
+areaSeries w n m = map (λ j. take m (drop (512 * j) w)) (upTo 0 n)
 
 -- the whole text: its names' line stands from `names` to `first`, where the lines of values begin
 pub record TextAt (t w w' : List ℕ) (letters : ℕ) (z : ℤ) (mark names first count lines : ℕ) : Type 0 where

@@ -8,8 +8,8 @@ ghost use Prim.Native.Nat.{_+_, _*_, _<_, _≤_};
 ghost use lib.ListN.{length, take, drop};
 ghost use Rattle.form.specs.Form.{hexChar, hexText, isLetter, isDigit, header, line, pattern, valueLines};
 ghost use Rattle.form.specs.Parse.{digitOf, readPattern, runOf, Got, skip, ending};
-ghost use Rattle.form.specs.Output.{sameWord, methodNumber, decimal};
-ghost use Rattle.listing.specs.Places.{patternGot, paste, readNumber, numberGot, NumberSmall, readSetting, settingGot, RowsRead, NamesRead, headerGot, StartRead, TextRead, gather, gathered, field, skipGot, RowRead};
+ghost use Rattle.form.specs.Output.{sameWord, methodNumber, decimal, columns};
+ghost use Rattle.listing.specs.Places.{patternGot, paste, readNumber, numberGot, NumberSmall, readSetting, settingGot, RowsRead, NamesRead, headerGot, StartRead, TextRead, gather, areaSeries, field, skipGot, RowRead};
 
 // ---- reading
 
@@ -596,11 +596,11 @@ pub fn put_counts(
     put_field(out, r, missing, 0)
 }
 
-// The first `lines` lines of the work area from `at` on, with room for 72 bytes each; the place after them.
+// The lines of values of the n series in the work area from `at` on, with room for 72 bytes each; the place after them.
 pub fn put_lines(out: &mut [u8], at: usize, n: usize, lines: usize, work: &[u32]) -> usize
     requires { ⌜ (n ≤ 8) × (lines ≤ 512) × (length (now work) ≡ 4096) × (at + 72 * lines ≤ length (now out)) ⌝ }
-    ensures { λ r. ⌜ r ≡ at + length (valueLines (gathered (now (work .entry)) n 0 lines)) ⌝ }
-    ensures { λ _. ⌜ now (out .exit) ≡ paste (now (out .entry)) at (valueLines (gathered (now (work .entry)) n 0 lines)) ⌝ }
+    ensures { λ r. ⌜ r ≡ at + length (valueLines (columns lines (areaSeries (now (work .entry)) n lines))) ⌝ }
+    ensures { λ _. ⌜ now (out .exit) ≡ paste (now (out .entry)) at (valueLines (columns lines (areaSeries (now (work .entry)) n lines))) ⌝ }
 {
     let mut i: usize = 0;
     let mut p: usize = at;
