@@ -1,15 +1,16 @@
 -- The whole reading, link by link.
 use Prim.Native.Nat.{ℕ, _-_, _≤_}
 use native.Mathlib.Omega.{arith}
-use mathlib.Core.Path.{_≡_, refl, ap, _∙_}
+use mathlib.Core.Path.{_≡_, refl, sym, ap, _∙_}
 use mathlib.Core.List.{List, []}
 use lib.IntN.{ℤ}
 use lib.ListN.{length, take, drop, length-append, length-drop}
 use lib.Seq.{take-at}
 use Rattle.form.specs.Form.{bytes, JobValues, Job, line, header}
 use Rattle.form.specs.Parse.{Got, got, bad, then, skip, readJobValues, readNames, readRows, parse}
-use Rattle.listing.specs.Places.{StartAt, NamesAt, RowsAt, TextAt}
-use Rattle.form.proofs.Reading.{skip-sound, names-sound}
+use Rattle.listing.specs.Places.{StartAt, NamesAt, RowsAt, spreadAll, areaSeries, TextAt}
+use Rattle.form.proofs.Reading.{skip-sound, names-sound, rows-sound}
+use Rattle.listing.proofs.Series.{area-series}
 
 pub header-long : (t r : List ℕ) → skip header t ≡ got tt r → 20 ≤ length t
 unfolding header bytes
@@ -68,8 +69,8 @@ module _ (t : List ℕ) (e : skip header t ≡ got tt (drop 20 t)) where
       pub text-rowless : readRows 512 k (drop q t) ≡ bad → parse t ≡ bad
       text-rowless f = named ∙ ap (λ (g : Got (List (List ℕ))). then g (λ rs s. got (record { values = x .values; names = y .names; rows = rs }) s)) (by-count (drop q t) bad f)
 
-      pub text-done : (w w' : List ℕ) (i : ℕ) → RowsAt t q k w w' i → TextAt t w w' n z m p q k i
-      text-done w w' i u = record {
+      pub text-done : (w w' : List ℕ) (i : ℕ) → length w ≡ 4096 → RowsAt t q k w w' i → TextAt t w' n z m p q k i
+      text-done w w' i l u = record {
         values = x .values;
         series = y .names;
         rows = u .rows;
@@ -83,5 +84,9 @@ module _ (t : List ℕ) (e : skip header t ≡ got tt (drop 20 t)) where
         within = y .within;
         counted = y .count;
         lined = u .count;
-        stored = u .stored;
+        stored =
+            let s = rows-sound 512 k (drop q t) (u .rows) [] (u .read) in
+            ap (λ (a : List ℕ). areaSeries a k i) (u .stored)
+            ∙ ap (λ (o : ℕ). areaSeries (spreadAll w 0 (u .rows)) k o) (sym (u .count))
+            ∙ area-series w k (u .rows) (s .each) (names-few t p k q y) (s .few) l;
       }

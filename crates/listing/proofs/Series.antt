@@ -8,6 +8,7 @@ use lib.ListN.{length, take, drop, getD, set, length-set, length-take, length-dr
 use lib.Seq.{getD-set-same, getD-set-other, getD-take, getD-drop, ext-getD}
 use Rattle.form.specs.Form.{All}
 use Rattle.form.specs.Output.{column, upTo, columns}
+use Rattle.form.proofs.Reading.{RowsOf}
 use Rattle.listing.specs.Places.{spread, spreadAll, gather, gathered, areaSeries}
 use Rattle.listing.proofs.LineLaws.{length-spread}
 
@@ -55,7 +56,7 @@ unfolding spreadAll
 length-all w i [] = refl
 length-all w i (r ∷ rs) = length-all (spread w i r) (suc i) rs ∙ length-spread w i r
 
-pub series-at : (w : List ℕ) (n : ℕ) (rs : List (List ℕ)) (j : ℕ) → All (λ r. length r ≡ n) rs → j < n → n ≤ 8 → length rs ≤ 512 → length w ≡ 4096
+series-at : (w : List ℕ) (n : ℕ) (rs : List (List ℕ)) (j : ℕ) → All (λ r. length r ≡ n) rs → j < n → n ≤ 8 → length rs ≤ 512 → length w ≡ 4096
     → take (length rs) (drop (512 * j) (spreadAll w 0 rs)) ≡ column rs j
 series-at w n rs j e h k m l =
     let x = spreadAll w 0 rs in
@@ -71,6 +72,18 @@ series-at w n rs j e h k m l =
     ∙ ap (λ (p : ℕ). getD x p 0) {x = 512 * j + i} {y = 0 + i + 512 * j} (omega arith)
     ∙ all-at w 0 n rs i j e u h (omega arith) (omega arith)
     ∙ sym (List·getD-map (λ r. getD r j 0) rs i []))
+
+map-up : (f g : ℕ → List ℕ) (i k n : ℕ) → i + k ≤ n → ((j : ℕ) → j < n → f j ≡ g j) → map f (upTo i k) ≡ map g (upTo i k)
+map-up f g i zero n h e = refl
+map-up f g i (suc k) n h e = ap (λ (x : List ℕ). x ∷ map f (upTo (suc i) k)) (e i (omega arith)) ∙ ap (λ (l : List (List ℕ)). g i ∷ l) (map-up f g (suc i) k n (omega arith) e)
+
+lengths : (n : ℕ) (rs : List (List ℕ)) → RowsOf n rs → All (λ r. length r ≡ n) rs
+lengths n [] e = tt
+lengths n (r ∷ rs) e = (e .0 .0, lengths n rs (e .1))
+
+pub area-series : (w : List ℕ) (n : ℕ) (rs : List (List ℕ)) → RowsOf n rs → n ≤ 8 → length rs ≤ 512 → length w ≡ 4096 → areaSeries (spreadAll w 0 rs) n (length rs) ≡ columns n rs
+unfolding columns
+area-series w n rs e k m l = map-up (λ j. take (length rs) (drop (512 * j) (spreadAll w 0 rs))) (column rs) 0 n n (omega arith) (λ j h. series-at w n rs j (lengths n rs e) h k m l)
 
 -- ---- lines out of the work area: line i has value i of each series
 

@@ -7,7 +7,7 @@ use lib.IntN.{ℤ}
 use lib.ListN.{length, take, drop, set, getD}
 use Rattle.form.specs.Form.{line, isDigit, JobValues}
 use Rattle.form.specs.Parse.{ending, Got, got, bad, then, readRun, readSign, readRow, readRows, readNames, readJobValues, parse}
-use Rattle.form.specs.Output.{decimal, upTo, numberOf, settingOf}
+use Rattle.form.specs.Output.{decimal, upTo, columns, numberOf, settingOf}
 use Rattle.listing.specs.declared.Pattern.{Pattern}
 use Rattle.listing.specs.declared.Pattern.the-variants.{At, Bad}
 use Rattle.listing.specs.declared.Number.{Number}
@@ -115,8 +115,8 @@ StartRead t at NoJob = readJobValues (drop at t) ≡ bad
 abbrev pub areaSeries : List ℕ → ℕ → ℕ → List (List ℕ)
 areaSeries w n m = map (λ j. take m (drop (512 * j) w)) (upTo 0 n)
 
--- the whole text: its names' line stands from `names` to `first`, where the lines of values begin
-pub record TextAt (t w w' : List ℕ) (letters : ℕ) (z : ℤ) (mark names first count lines : ℕ) : Type 0 where
+-- the whole text: its names' line stands from `names` to `first`, where the lines of values begin; w is the work area afterwards
+pub record TextAt (t w : List ℕ) (letters : ℕ) (z : ℤ) (mark names first count lines : ℕ) : Type 0 where
   pub values : JobValues
   pub series : List (List ℕ)
   pub rows : List (List ℕ)
@@ -130,11 +130,11 @@ pub record TextAt (t w w' : List ℕ) (letters : ℕ) (z : ℤ) (mark names firs
   pub within : first ≤ length t
   pub counted : length series ≡ count
   pub lined : length rows ≡ lines
-  pub stored : w' ≡ spreadAll w 0 rows
+  pub stored : areaSeries w count lines ≡ columns count rows
 
-abbrev pub TextRead : List ℕ → List ℕ → List ℕ → Reading → Type 0
-TextRead t w w' (Good letters z mark names first count lines) = TextAt t w w' letters z mark names first count lines
-TextRead t w w' Wrong = parse t ≡ bad
+abbrev pub TextRead : List ℕ → List ℕ → Reading → Type 0
+TextRead t w (Good letters z mark names first count lines) = TextAt t w letters z mark names first count lines
+TextRead t w Wrong = parse t ≡ bad
 
 -- l with the bytes of w from `at` on
 abbrev pub paste : List ℕ → ℕ → List ℕ → List ℕ

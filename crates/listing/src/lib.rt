@@ -374,7 +374,7 @@ pub enum Reading {
 // The whole text: its job, with the patterns in the work area, series by series; or question 9's no.
 pub fn read_text(s: &[u8], work: &mut [u32]) -> Reading
     requires { ⌜ length (now work) ≡ 4096 ⌝ }
-    ensures { λ r. ⌜ TextRead (now (s .entry)) (now (work .entry)) (now (work .exit)) r ⌝ }
+    ensures { λ r. ⌜ TextRead (now (s .entry)) (now (work .exit)) r ⌝ }
 {
     if header_at(s) {
         let j = start_at(s, 20);

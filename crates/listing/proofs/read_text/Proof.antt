@@ -75,7 +75,7 @@ returns c =
     let v = c .before .before .before .before .before .rows-at .last .1 .1 .1 .0 in
     let i = c .before .g .given .0 .0 in
     let fit : SFits w32 z = search needs in
-    subst (λ (o : ℤ). TextAt t w v n o m p q k i) (sym (toZ-ofZ fit)) (text-done t (c .before .before .before .before .before .before .before .before .before .before .before .before .before .before .before .before .header-at .ensures ∙ ap (headerGot t) (c .before .before .before .before .before .before .before .before .before .before .before .before .before .before .before .if1 .taken)) n z m p x k q y w v i (subst (RowsRead t q k w v) (c .before .g .given .1) (c .before .before .before .before .before .rows-at .ensures)))
+    subst (λ (o : ℤ). TextAt t v n o m p q k i) (sym (toZ-ofZ fit)) (text-done t (c .before .before .before .before .before .before .before .before .before .before .before .before .before .before .before .before .header-at .ensures ∙ ap (headerGot t) (c .before .before .before .before .before .before .before .before .before .before .before .before .before .before .before .if1 .taken)) n z m p x k q y w v i (c .before .before .before .before .before .before .before .before .before .before .before .before .before .before .before .before .before .before .before .pre) (subst (RowsRead t q k w v) (c .before .g .given .1) (c .before .before .before .before .before .rows-at .ensures)))
 
 enum-told : tie.Need-enum-told
 enum-told c = search needs
