@@ -6,9 +6,10 @@ use native.Mathlib.Numerals.{add-one}
 use mathlib.Core.Path.{_≡_, refl, sym, ap, _∙_}
 use mathlib.Core.List.{List, [], _∷_, _++_, map, append-assoc, append-nil}
 use lib.ListN.{length, getD, length-append}
-use Rattle.form.specs.Form.{line, after, pattern, valueLines}
+use Rattle.meaning.specs.Questions.{refused}
+use Rattle.form.specs.Form.{bytes, line, after, pattern, valueLines}
 use Rattle.form.specs.Parse.{ending}
-use Rattle.form.specs.Output.{columns, decimal}
+use Rattle.form.specs.Output.{columns, decimal, printed}
 use Rattle.listing.specs.Places.{paste, field, gather, gathered, areaSeries}
 use Rattle.listing.proofs.Walk.{paste-none, length-paste, length-hex}
 use Rattle.listing.proofs.PutLaws.{paste-paste}
@@ -76,6 +77,27 @@ fields-line a b c d =
 pub counted-done : (l : List ℕ) (at a b c d : ℕ) (m : List ℕ) (p : ℕ) → Counted l at 4 (((field a 3 ++ field b 2) ++ field c 1) ++ field d 0) m p
     → (p ≡ at + length (line (map decimal (a ∷ b ∷ c ∷ d ∷ [])))) × (m ≡ paste l at (line (map decimal (a ∷ b ∷ c ∷ d ∷ []))))
 counted-done l at a b c d m p x = let e = fields-line a b c d in (x .laid .place ∙ ap (λ (y : List ℕ). at + length y) e, x .laid .stored ∙ ap (paste l at) e)
+
+-- ---- a refusal
+
+module _ (l : List ℕ) (n p : ℕ) (m : List ℕ) (h : n < 1000) (k : 12 ≤ length l) (e : (p ≡ 0 + length (bytes "refused,")) × (m ≡ paste l 0 (bytes "refused,"))) where
+  first : Laid l 0 (bytes "refused,") m p
+  unfolding bytes
+  first = record { stored = e .1; place = e .0; room = omega arith }
+
+  refusal-room : p + 4 ≤ length m
+  unfolding bytes
+  refusal-room = let a = laid-long l 0 (bytes "refused,") m p first in let b = e .0 in omega arith
+
+  pub refusal-done : (o : List ℕ) (q : ℕ) → (q ≡ p + length (field n 0)) × (o ≡ paste m p (field n 0)) → (q ≡ length (printed (refused n))) × (o ≡ paste l 0 (printed (refused n)))
+  unfolding bytes printed
+  refusal-done o q f =
+      let s = field-short n 0 h in
+      let a = laid-long l 0 (bytes "refused,") m p first in
+      let b = refusal-room in
+      let x = laid-more l 0 (bytes "refused,") m p first (field n 0) o q (omega arith) (f .1) (f .0) in
+      let c = x .place in
+      (omega arith, x .stored)
 
 -- ---- the lines
 

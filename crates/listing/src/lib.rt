@@ -6,9 +6,10 @@ ghost use mathlib.Core.Bool.{true, false};
 ghost use mathlib.Core.List.{[], _∷_, map};
 ghost use Prim.Native.Nat.{_+_, _*_, _<_, _≤_};
 ghost use lib.ListN.{length, take, drop};
+ghost use Rattle.meaning.specs.Questions.{refused};
 ghost use Rattle.form.specs.Form.{hexChar, hexText, isLetter, isDigit, header, line, pattern, valueLines};
 ghost use Rattle.form.specs.Parse.{digitOf, readPattern, runOf, Got, skip, ending};
-ghost use Rattle.form.specs.Output.{sameWord, methodNumber, decimal, columns};
+ghost use Rattle.form.specs.Output.{sameWord, methodNumber, decimal, columns, printed};
 ghost use Rattle.listing.specs.Places.{patternGot, paste, readNumber, numberGot, NumberSmall, readSetting, settingGot, RowsRead, NamesRead, headerGot, StartRead, TextRead, gather, areaSeries, field, skipGot, RowRead};
 
 // ---- reading
@@ -609,4 +610,14 @@ pub fn put_lines(out: &mut [u8], at: usize, n: usize, lines: usize, work: &[u32]
         i += 1;
     }
     p
+}
+
+// What is printed for the refusal with number n, from the start on; how many bytes it has.
+pub fn put_refusal(out: &mut [u8], n: usize) -> usize
+    requires { ⌜ (n < 1000) × (12 ≤ length (now out)) ⌝ }
+    ensures { λ r. ⌜ r ≡ length (printed (refused n)) ⌝ }
+    ensures { λ _. ⌜ now (out .exit) ≡ paste (now (out .entry)) 0 (printed (refused n)) ⌝ }
+{
+    let p = put_bytes(out, 0, b"refused,");
+    put_field(out, p, n, 0)
 }
