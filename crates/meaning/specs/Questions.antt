@@ -1,4 +1,4 @@
--- Document 01, "Questions before work begins": from a call's inputs to its outcome. Question 9 will stand with the program's text.
+-- Document 01, "Questions before work begins": from a call's inputs to its outcome. Question 9 stands with the program's text, in the crate `form`.
 use mathlib.Core.Bool.{Bool, true, cond, _&&_, _||_}
 use mathlib.Core.List.{List, [], _∷_}
 use Prim.Native.Nat.{ℕ, suc, _+_, _-_, _/_, _%_, _^_}
