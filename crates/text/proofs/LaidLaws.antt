@@ -109,6 +109,19 @@ line-long w q (suc n) = go (getD w q 0) (after (map pattern (gather w (q + 512) 
     go : (v b : ℕ) (t : List ℕ) → length t ≡ 9 * n → length (pattern v ++ b ∷ t) ≡ 9 * suc n
     go v b t e = length-append (pattern v) (b ∷ t) ∙ (let h = length-hex 8 v in omega arith)
 
+-- lines of at most 8 values
+lines-short : (w : List ℕ) (n i m : ℕ) → n ≤ 8 → length (valueLines (gathered w n i m)) ≤ 72 * m
+unfolding gathered
+lines-short w n i zero h = omega arith
+lines-short w n i (suc m) h =
+    let a = line-long w i n in
+    let b = lines-short w n (suc i) m h in
+    let c = length-append (line (map pattern (gather w i n))) (valueLines (gathered w n (suc i) m)) in
+    omega arith
+
+pub area-short : (w : List ℕ) (n m : ℕ) → n ≤ 8 → length (valueLines (columns m (areaSeries w n m))) ≤ 72 * m
+area-short w n m h = let a = lines-short w n 0 m h in let b = ap (λ (l : List (List ℕ)). length (valueLines l)) (area-lines w n m) in omega arith
+
 pub record LinesTurn (l₀ : List ℕ) (at n lines : ℕ) (work l : List ℕ) (i p : ℕ) : Type 0 where
   pub low : i ≤ lines
   pub most : n ≤ 8
