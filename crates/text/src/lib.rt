@@ -488,14 +488,14 @@ pub fn put_pattern(out: &mut [u8], at: usize, v: u32)
     requires { ⌜ at + 8 ≤ length (now out) ⌝ }
     ensures { λ _. ⌜ now (out .exit) ≡ paste (now (out .entry)) at (hexText 8 v) ⌝ }
 {
-    let mut k: usize = 0;
+    let mut done: usize = 0;
     let mut rest: u32 = v;
-    while k < 8 {
+    while done < 8 {
         let c = hex_char(rest % 16);
-        let i = at + (7 - k);
+        let i = at + (7 - done);
         out[i] = c;
         rest = rest / 16;
-        k += 1;
+        done += 1;
     }
 }
 
