@@ -10,13 +10,12 @@ use lib.IntN.{ℤ}
 use lib.Dec.{eqb}
 use borrow.Author.Tests.{eqb-true, eqb-false}
 use lib.ListN.{length, take, drop, length-append, length-take}
-use lib.Seq.{take-at, drop-at, drop-drop, take-append-le, take-take, take-add}
 use Rattle.meaning.specs.Methods.{Method, Counts, placeAfter, countFrom, counts}
 use Rattle.meaning.specs.Questions.{Outcome, refused, accepted, trimQuestions}
 use Rattle.meaning.specs.Calls.{AfterTrim, answering, leaving, trim, trimSingles}
 use Rattle.form.specs.Form.{line}
 use Rattle.form.specs.Output.{upTo, decimal, countsLine, countsLines}
-use Rattle.parts.proofs.Back.{back, length-back}
+use Rattle.parts.proofs.Back.{back, length-back, back-own, back-before, back-after}
 use Rattle.text.specs.Places.{areaSeries, paste}
 use Rattle.text.proofs.Walk.{paste-none}
 use Rattle.text.proofs.FieldLaws.{decimal-short}
@@ -65,35 +64,6 @@ printed-short r s = go (answerOf r) s
     go : (o : Outcome Counts) → Small o → length (leaving o countsLine []) ≤ 16
     go (refused n) s = omega arith
     go (accepted c) s = four _ _ _ _ (s .0) (s .1) (s .2) (s .3)
-
--- ---- a part of the work area that came back
-
--- its own place holds what came back
-back-own : (w : List ℕ) (a k : ℕ) (v : List ℕ) → length v ≡ k → a + k ≤ length w → take k (drop a (back w a k v)) ≡ v
-back-own w a k v e h = ap (take k) (drop-at (take a w) (v ++ drop k (drop a w)) a (simp length-take (omega arith))) ∙ take-at v (drop k (drop a w)) k e
-
--- a part, from the start of what holds it
-part-start : (l : List ℕ) (b m : ℕ) → b ≤ length l → take m (drop b l) ≡ drop b (take (b + m) l)
-part-start l b m h = sym (ap (drop b) (take-add b m l) ∙ drop-at (take b l) (take m (drop b l)) b (simp length-take (omega arith)))
-
--- places before it and after it are left alone
-back-before : (w : List ℕ) (a k : ℕ) (v : List ℕ) (m b : ℕ) → length v ≡ k → b + m ≤ a → a + k ≤ length w → take m (drop b (back w a k v)) ≡ take m (drop b w)
-back-before w a k v m b e h g =
-    let l = length-back w a k v e g in
-    part-start (back w a k v) b m (omega arith)
-    ∙ ap (drop b) (take-append-le (b + m) (take a w) (v ++ drop k (drop a w)) (simp length-take (omega arith)) ∙ take-take (b + m) a w h)
-    ∙ sym (part-start w b m (omega arith))
-
-back-after : (w : List ℕ) (a k : ℕ) (v : List ℕ) (m b : ℕ) → length v ≡ k → a + k ≤ b → a + k ≤ length w → take m (drop b (back w a k v)) ≡ take m (drop b w)
-back-after w a k v m b e h g =
-    let f : length (take a w ++ v) ≡ a + k = simp (length-append, length-take) (omega arith) in
-    ap (take m)
-    (ap (drop b) (sym (append-assoc (take a w) v (drop k (drop a w))))
-    ∙ ap (λ (n : ℕ). drop n ((take a w ++ v) ++ drop k (drop a w))) {x = b} {y = a + k + (b - (a + k))} (omega arith)
-    ∙ sym (drop-drop (b - (a + k)) (a + k) ((take a w ++ v) ++ drop k (drop a w)))
-    ∙ ap (drop (b - (a + k))) (drop-at (take a w ++ v) (drop k (drop a w)) (a + k) f ∙ drop-drop k a w)
-    ∙ drop-drop (b - (a + k)) (a + k) w
-    ∙ ap (λ (n : ℕ). drop n w) {x = a + k + (b - (a + k))} {y = b} (omega arith))
 
 -- ---- the loop
 

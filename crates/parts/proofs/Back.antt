@@ -1,10 +1,10 @@
 -- A part of a slice that was lent on: the slice once the part has come back.
-use Prim.Native.Nat.{ℕ, _+_, _≤_}
+use Prim.Native.Nat.{ℕ, _+_, _-_, _≤_}
 use native.Mathlib.Omega.{arith}
 use mathlib.Core.Path.{_≡_, sym, ap, _∙_}
 use mathlib.Core.List.{List, _++_, append-assoc}
 use lib.ListN.{length, take, drop, length-append, length-take, length-drop}
-use lib.Seq.{take-at}
+use lib.Seq.{take-at, drop-at, drop-drop, take-take, take-add, take-append-le}
 
 -- the whole, once its part from a on, k elements long, has come back as ys
 abbrev pub back : {A : Type 0} → List A → ℕ → ℕ → List A → List A
@@ -17,3 +17,35 @@ pub take-back : {A : Type 0} (xs : List A) (a k : ℕ) (ys : List A) → length 
 take-back xs a k ys e h =
     ap (take (a + k)) (sym (append-assoc (take a xs) ys (drop k (drop a xs))))
     ∙ take-at (take a xs ++ ys) (drop k (drop a xs)) (a + k) (simp (length-append, length-take) (omega arith))
+
+pub drop-back : {A : Type 0} (xs : List A) (a k : ℕ) (ys : List A) → length ys ≡ k → a + k ≤ length xs → drop (a + k) (back xs a k ys) ≡ drop k (drop a xs)
+drop-back xs a k ys e h =
+    ap (drop (a + k)) (sym (append-assoc (take a xs) ys (drop k (drop a xs))))
+    ∙ drop-at (take a xs ++ ys) (drop k (drop a xs)) (a + k) (simp (length-append, length-take) (omega arith))
+
+-- the part's own place holds what came back
+pub back-own : {A : Type 0} (xs : List A) (a k : ℕ) (ys : List A) → length ys ≡ k → a + k ≤ length xs → take k (drop a (back xs a k ys)) ≡ ys
+back-own xs a k ys e h =
+    ap (take k) (drop-at (take a xs) (ys ++ drop k (drop a xs)) a (simp length-take (omega arith)))
+    ∙ take-at ys (drop k (drop a xs)) k e
+
+-- a part, from the start of what holds it
+part-start : {A : Type 0} (xs : List A) (b m : ℕ) → b ≤ length xs → take m (drop b xs) ≡ drop b (take (b + m) xs)
+part-start xs b m h = sym (ap (drop b) (take-add b m xs) ∙ drop-at (take b xs) (take m (drop b xs)) b (simp length-take (omega arith)))
+
+-- places before it and after it are left alone
+pub back-before : {A : Type 0} (xs : List A) (a k : ℕ) (ys : List A) (m b : ℕ) → length ys ≡ k → b + m ≤ a → a + k ≤ length xs → take m (drop b (back xs a k ys)) ≡ take m (drop b xs)
+back-before xs a k ys m b e h g =
+    let l = length-back xs a k ys e g in
+    part-start (back xs a k ys) b m (omega arith)
+    ∙ ap (drop b) (take-append-le (b + m) (take a xs) (ys ++ drop k (drop a xs)) (simp length-take (omega arith)) ∙ take-take (b + m) a xs h)
+    ∙ sym (part-start xs b m (omega arith))
+
+pub back-after : {A : Type 0} (xs : List A) (a k : ℕ) (ys : List A) (m b : ℕ) → length ys ≡ k → a + k ≤ b → a + k ≤ length xs → take m (drop b (back xs a k ys)) ≡ take m (drop b xs)
+back-after xs a k ys m b e h g =
+    ap (take m)
+    (ap (λ (n : ℕ). drop n (back xs a k ys)) {x = b} {y = a + k + (b - (a + k))} (omega arith)
+    ∙ sym (drop-drop (b - (a + k)) (a + k) (back xs a k ys))
+    ∙ ap (drop (b - (a + k))) (drop-back xs a k ys e g ∙ drop-drop k a xs)
+    ∙ drop-drop (b - (a + k)) (a + k) xs
+    ∙ ap (λ (n : ℕ). drop n xs) {x = a + k + (b - (a + k))} {y = b} (omega arith))

@@ -3,7 +3,7 @@ use mathlib.Core.Path.{_≡_, refl, sym, ap, ap₂, _∙_, subst}
 use mathlib.Core.Logic.{_≢_}
 use mathlib.Core.Bool.{Bool, true, false, cond}
 use Prim.Native.Nat.{ℕ, zero, suc, _+_, _-_, _*_, _/_, _%_, _^_, _≤_, _<_}
-use native.Mathlib.Nat.{le-refl, div-add-mod', div-lt-iff-lt-mul, mul-le-mul-right}
+use native.Mathlib.Nat.{le-refl, div-add-mod', div-lt-iff-lt-mul, mul-le-mul-right, mul-assoc, add-mul, mul-add-div-right}
 use native.Mathlib.Decide.{decLt, ℕ-discrete}
 use native.Mathlib.Omega.{arith}
 use borrow.Author.Tests.{eq-eqb, ne-eqb, lt-ltb, le-ltb, lt-leb, le-leb}
@@ -83,6 +83,16 @@ pub cut : (t m U S : ℕ) → U ≡ 2 ^ t → S ≡ m / U * U → S ≡ shaved t
 unfolding shaved
 cut t m U S u s = s ∙ ap (λ (x : ℕ). m / x * x) u
 
+-- the cut of a whole pattern is its sign and the cut of the rest
+floor-sign : (w t n : ℕ) → t ≤ n → w / 2 ^ t * 2 ^ t ≡ w - w % 2 ^ n + w % 2 ^ n / 2 ^ t * 2 ^ t
+floor-sign w t n h =
+    let q = w / 2 ^ n * 2 ^ (n - t) in
+    let m = w % 2 ^ n in
+    let a : q * 2 ^ t + m ≡ w = ap (λ (x : ℕ). x + m) (mul-assoc (w / 2 ^ n) (2 ^ (n - t)) (2 ^ t) ∙ ap (λ (x : ℕ). w / 2 ^ n * x) (sym (pow-split n t h))) ∙ div-add-mod' w (2 ^ n) in
+    let b : w / 2 ^ t ≡ q + m / 2 ^ t = ap (λ (x : ℕ). x / 2 ^ t) (sym a) ∙ mul-add-div-right (pow-pos t) q m in
+    let c : w / 2 ^ t * 2 ^ t ≡ q * 2 ^ t + m / 2 ^ t * 2 ^ t = ap (λ (x : ℕ). x * 2 ^ t) b ∙ add-mul q (m / 2 ^ t) (2 ^ t) in
+    omega arith
+
 -- and room for a tail above it
 pub cut-room : (w t m add U S : ℕ) → t ≤ w → m < 2 ^ w → add < 2 ^ t → U ≡ 2 ^ t → S ≡ m / U * U → S + add < 2 ^ w
 unfolding shaved
@@ -128,14 +138,22 @@ module _ (F X : ℕ) where
         go (yes l) = rw (lt-ltb (rounded t m) (infinity F X) l, lt-leb (infinity F X) (rounded t m) l) refl
         go (no l) = rw (le-ltb (rounded t m) (infinity F X) (omega arith), le-leb (infinity F X) (rounded t m) (omega arith)) refl
 
-  -- methods 0 to 3: the new pattern by the cut S
-  pub tail-word : (w t add U S N z : ℕ) → U ≡ 2 ^ t → S ≡ magnitude F X w / U * U → N ≡ cond (eqb (magnitude F X w) 0) (magnitude F X w) (S + add)
-      → z ≡ cond (ltb (magnitude F X w) (infinity F X)) (w - magnitude F X w + N) w → z ≡ wanted F X w (tailAdded t add (magnitude F X w))
-  unfolding tailAdded
-  tail-word w t add U S N z u s n e =
-      e ∙ ap (λ (x : ℕ). cond (ltb (magnitude F X w) (infinity F X)) (w - magnitude F X w + x) w)
-      (n ∙ ap (λ (x : ℕ). cond (eqb (magnitude F X w) 0) (magnitude F X w) (x + add)) (cut t (magnitude F X w) U S u s))
-      ∙ wanted-sum w (cond (eqb (magnitude F X w) 0) (magnitude F X w) (shaved t (magnitude F X w) + add))
+  -- methods 0 to 3: the new pattern by the whole pattern's cut S
+  module _ (w t add U S : ℕ) (h : t ≤ F) (u : U ≡ 2 ^ t) (s : S ≡ w / U * U) where
+    pub whole-cut : S + add ≡ w - magnitude F X w + (shaved t (magnitude F X w) + add)
+    unfolding magnitude shaved
+    whole-cut = let e = s ∙ ap (λ (x : ℕ). w / x * x) u ∙ floor-sign w t (F + X) (omega arith) in omega arith
+
+    pub tail-word : (y z : ℕ) → y ≡ cond (eqb (magnitude F X w) 0) w (S + add) → z ≡ cond (ltb (magnitude F X w) (infinity F X)) y w → z ≡ wanted F X w (tailAdded t add (magnitude F X w))
+    unfolding tailAdded
+    tail-word y z f e =
+        e ∙ ap (λ (x : ℕ). cond (ltb (magnitude F X w) (infinity F X)) x w) (f ∙ go (ℕ-discrete (magnitude F X w) 0))
+        ∙ wanted-sum w (cond (eqb (magnitude F X w) 0) (magnitude F X w) (shaved t (magnitude F X w) + add))
+      where
+        go : Dec (magnitude F X w ≡ 0)
+            → cond (eqb (magnitude F X w) 0) w (S + add) ≡ w - magnitude F X w + cond (eqb (magnitude F X w) 0) (magnitude F X w) (shaved t (magnitude F X w) + add)
+        go (yes a) = rw (eq-eqb (magnitude F X w) 0 a) (omega arith)
+        go (no a) = rw (ne-eqb (magnitude F X w) 0 a) whole-cut
 
   -- method 4: the new pattern, and whether it is clipped, by the cut S and the sum cut
   module _ (w t H U up S : ℕ) (l : 1 ≤ t) (h : t ≤ F) (hh : H ≡ 2 ^ (t - 1)) (uu : U ≡ 2 ^ t)

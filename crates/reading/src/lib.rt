@@ -101,16 +101,16 @@ pub fn below_single(m: u32, yes: u32, no: u32) -> u32
     if m < 0x7f80_0000 { yes } else { no }
 }
 
-// Methods 0 to 3: the tail of t bits becomes `add`, and zero stays.
+// Methods 0 to 3: the tail of t bits becomes `add`, and zero stays. The sign stands above every tail, so the whole pattern is cut.
 pub fn tail_single(x: u32, t: u32, add: u32, mark: u32) -> Single
     requires { ⌜ (t ≤ 23) × (add < 2 ^ t) ⌝ }
     ensures { λ r. ⌜ r ≡ singleFrom mark x (wanted 23 8 x (tailAdded t add (magnitude 23 8 x))) 0 ⌝ }
 {
     let m = x % 0x8000_0000;
     let unit = power_single(t);
-    let s = floor_single(m, unit);
-    let n = choose_single(m, 0, m, s + add);
-    let z = below_single(m, (x - m) + n, x);
+    let s = floor_single(x, unit);
+    let y = choose_single(m, 0, x, s + add);
+    let z = below_single(m, y, x);
     settle_single(x, z, 0, mark)
 }
 
@@ -154,16 +154,16 @@ pub fn below_double(m: u64, yes: u64, no: u64) -> u64
     if m < 0x7ff0_0000_0000_0000 { yes } else { no }
 }
 
-// Methods 0 to 3: the tail of t bits becomes `add`, and zero stays.
+// Methods 0 to 3: the tail of t bits becomes `add`, and zero stays. The sign stands above every tail, so the whole pattern is cut.
 pub fn tail_double(x: u64, t: u32, add: u64, mark: u64) -> Double
     requires { ⌜ (t ≤ 52) × (add < 2 ^ t) ⌝ }
     ensures { λ r. ⌜ r ≡ doubleFrom mark x (wanted 52 11 x (tailAdded t add (magnitude 52 11 x))) 0 ⌝ }
 {
     let m = x % 0x8000_0000_0000_0000;
     let unit = power_double(t);
-    let s = floor_double(m, unit);
-    let n = choose_double(m, 0, m, s + add);
-    let z = below_double(m, (x - m) + n, x);
+    let s = floor_double(x, unit);
+    let y = choose_double(m, 0, x, s + add);
+    let z = below_double(m, y, x);
     settle_double(x, z, 0, mark)
 }
 

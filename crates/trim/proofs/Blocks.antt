@@ -5,8 +5,9 @@ use mathlib.Core.List.{List, [], _∷_, _++_, append-assoc}
 use Prim.Native.Nat.{ℕ, zero, suc, min, _+_, _-_, _/_, _%_, _<_, _≤_, zero-le}
 use native.Mathlib.Nat.{add-zero, zero-add, add-assoc, add-suc, suc-add}
 use native.Mathlib.Omega.{arith}
-use lib.ListN.{length, take, drop, length-append, length-take, length-drop, take-append-drop}
-use lib.Seq.{take-at, drop-at, length-take-le}
+use lib.ListN.{length, take, drop, length-take, length-drop, take-append-drop}
+use lib.Seq.{length-take-le}
+use Rattle.parts.proofs.Back.{back, length-back, take-back, drop-back}
 use Rattle.trim.specs.Walk.{mapFrom, sumFrom}
 use Rattle.trim.proofs.Walks.{Ended, mapped-end, summed-end}
 
@@ -47,9 +48,6 @@ module _ (all xs : List ℕ) (a k : ℕ) (even : a % 2 ≡ 0) (room : a + k ≤ 
   abbrev part : List ℕ
   part = take k (drop a xs)
 
-  abbrev pub back : List ℕ → List ℕ
-  back ys = take a xs ++ (ys ++ drop k (drop a xs))
-
   half : a / 2 + a / 2 ≡ a
   half = omega arith
 
@@ -68,29 +66,17 @@ module _ (all xs : List ℕ) (a k : ℕ) (even : a % 2 ≡ 0) (room : a + k ≤ 
       ∙ ap₂ (λ (m n : ℕ). m + n) (ap (λ (n : ℕ). sumFrom g n part) (sym half) ∙ sum-even g e (a / 2) part) (ap (λ (n : ℕ). sumFrom g (a + n) (drop k (drop a xs))) part-length)
 
   module _ (ys : List ℕ) (long : length ys ≡ k) where
-    front : length (take a xs ++ ys) ≡ a + k
-    front = length-append (take a xs) ys ∙ rw (length-take-le a xs (omega arith), long) refl
-
-    pub back-length : length (back ys) ≡ length xs
-    back-length = simp (length-append, length-take, length-drop) (omega arith)
-
-    back-take : take (a + k) (back ys) ≡ take a xs ++ ys
-    back-take = ap (take (a + k)) (sym (append-assoc (take a xs) ys (drop k (drop a xs)))) ∙ take-at (take a xs ++ ys) (drop k (drop a xs)) (a + k) front
-
-    back-drop : drop (a + k) (back ys) ≡ drop k (drop a xs)
-    back-drop = ap (drop (a + k)) (sym (append-assoc (take a xs) ys (drop k (drop a xs)))) ∙ drop-at (take a xs ++ ys) (drop k (drop a xs)) (a + k) front
-
     pub map-turn : (f : ℕ → ℕ → ℕ) → Even f → ys ≡ mapFrom f 0 part → take a xs ++ mapFrom f a (drop a xs) ≡ mapFrom f 0 all
-        → take (a + k) (back ys) ++ mapFrom f (a + k) (drop (a + k) (back ys)) ≡ mapFrom f 0 all
+        → take (a + k) (back xs a k ys) ++ mapFrom f (a + k) (drop (a + k) (back xs a k ys)) ≡ mapFrom f 0 all
     map-turn f e y inv =
-        rw (back-take, back-drop)
+        rw (take-back xs a k ys long room, drop-back xs a k ys long room)
         (append-assoc (take a xs) ys (mapFrom f (a + k) (drop k (drop a xs)))
         ∙ ap (λ (l : List ℕ). take a xs ++ (l ++ mapFrom f (a + k) (drop k (drop a xs)))) y ∙ ap (λ (l : List ℕ). take a xs ++ l) (sym (map-block f e)) ∙ inv)
 
     pub sum-turn : (g : ℕ → ℕ → ℕ) → Even g → (n m : ℕ) → m ≡ sumFrom g 0 part → n + sumFrom g a (drop a xs) ≡ sumFrom g 0 all
-        → n + m + sumFrom g (a + k) (drop (a + k) (back ys)) ≡ sumFrom g 0 all
+        → n + m + sumFrom g (a + k) (drop (a + k) (back xs a k ys)) ≡ sumFrom g 0 all
     sum-turn g e n m y inv =
-        rw back-drop
+        rw (drop-back xs a k ys long room)
         (add-assoc n m (sumFrom g (a + k) (drop k (drop a xs)))
         ∙ ap (λ (x : ℕ). n + (x + sumFrom g (a + k) (drop k (drop a xs)))) y ∙ ap (λ (x : ℕ). n + x) (sym (sum-block g e)) ∙ inv)
 
@@ -167,9 +153,9 @@ module _ (p a b c d : ℕ → ℕ → ℕ) (pair : Paired p a b c d) (all : List
         → Whole p a b c d all (take at xs ++ (ys ++ drop k (drop at xs))) (na + ma) (nb + mb) (nc + mc) (nd + md) (at + k)
     turn-by ys ma mb mc md ep ea eb ec ed =
         record {
-          same = back-length all xs at k ev room ys long ∙ inv .same;
-          within = rw (back-length all xs at k ev room ys long) room;
-          even = λ h. let l : at + k < length xs = rw (back-length all xs at k ev room ys long) at h in omega (arith, ev);
+          same = length-back xs at k ys long room ∙ inv .same;
+          within = rw (length-back xs at k ys long room) room;
+          even = λ h. let l : at + k < length xs = rw (length-back xs at k ys long room) at h in omega (arith, ev);
           few-a = omega (arith, inv .few-a, few-block a (pair .a-bit) ma ea);
           few-b = omega (arith, inv .few-b, few-block b (pair .b-bit) mb eb);
           few-c = omega (arith, inv .few-c, few-block c (pair .c-bit) mc ec);
