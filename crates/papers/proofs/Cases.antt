@@ -1,0 +1,19 @@
+-- The cases, by computing them.
+use mathlib.Core.Path.{refl}
+use Rattle.meaning.proofs.CasesRows.{afterAll}
+use Rattle.papers.specs.Moved.{moved}
+use Rattle.papers.specs.Cases.{Attained}
+
+pub attained : Attained
+unfolding afterAll moved
+attained =
+    record {
+      shave-whole = refl;
+      set-whole = refl;
+      groom-whole = (refl, refl);
+      halfshave-half = refl;
+      round-half = refl;
+      absolute-half = refl;
+      round-clipped = (refl, refl);
+      absolute-clipped = (refl, refl);
+    }

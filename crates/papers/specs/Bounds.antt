@@ -1,0 +1,19 @@
+-- 001 and 003: the distance that one call can move a reading, by the unit (003's quantum). Every pattern may be the reading and the mark.
+use mathlib.Core.Path.{_≡_}
+use mathlib.Core.Bool.{false}
+use Prim.Native.Nat.{ℕ, _+_, _*_, _≤_, _<_}
+use Rattle.meaning.specs.Readings.{magnitude}
+use Rattle.meaning.specs.Methods.{TailMethod, tail, halfshave, round, absolute, clips}
+use Rattle.papers.specs.Moved.{moved, spacingOf, unitOf}
+
+pub record UnitBounds (F X : ℕ) : Type 0 where
+  -- 003, section 3: at most a full quantum for shave, set and groom. Never the whole of it: at most a unit less one spacing.
+  pub tail-moves : (c : TailMethod) (k mark place w : ℕ) → moved F X (tail c k) mark place w + spacingOf F X w ≤ unitOf F X (tail c k) w
+  -- 003, section 3: at most half a quantum for halfshave
+  pub halfshave-moves : (k mark place w : ℕ) → 2 * moved F X (tail halfshave k) mark place w ≤ unitOf F X (tail halfshave k) w
+  -- and for round. True unless it clips, which the paper leaves out; then it is a unit less one spacing, as for shave.
+  pub round-moves : (k mark place w : ℕ) → clips F X (round k) (magnitude F X w) ≡ false → 2 * moved F X (round k) mark place w ≤ unitOf F X (round k) w
+  pub round-always : (k mark place w : ℕ) → moved F X (round k) mark place w + spacingOf F X w ≤ unitOf F X (round k) w
+  -- 003, section 5, and 001, section 2.3 (Decimal Rounding): within half of the least bit's value, 2 ^ p. True unless it clips; then it is less than 2 ^ p.
+  pub absolute-moves : (q mark place w : ℕ) → clips F X (absolute q) (magnitude F X w) ≡ false → 2 * moved F X (absolute q) mark place w ≤ unitOf F X (absolute q) w
+  pub absolute-always : (q mark place w : ℕ) → moved F X (absolute q) mark place w < unitOf F X (absolute q) w

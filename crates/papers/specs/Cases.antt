@@ -1,0 +1,36 @@
+-- Single readings that attain a bound, and counterexamples to claims as they are printed. Each is computed. The mark is 7CF00000 where none is named.
+use mathlib.Core.Path.{_≡_}
+use mathlib.Core.Bool.{true}
+use Prim.Native.Nat.{ℕ, _+_, _*_}
+use Rattle.meaning.specs.Readings.{magnitude}
+use Rattle.meaning.specs.Methods.{Method, tail, shave, set, groom, halfshave, round, absolute, clips}
+use Rattle.papers.specs.Moved.{moved, spacingOf, unitOf}
+
+-- by how many least spacings a call moves a single at a place; the spacing and the unit there
+abbrev by : Method → ℕ → ℕ → ℕ
+by x place w = moved 23 8 x 0x7CF00000 place w
+
+abbrev spacingAt : ℕ → ℕ
+spacingAt w = spacingOf 23 8 w
+
+abbrev unitAt : Method → ℕ → ℕ
+unitAt x w = unitOf 23 8 x w
+
+-- The bounds of `UnitBounds` are attained.
+pub record Attained : Type 0 where
+  -- 7 keep bits: a tail of ones shaved, and a tail of zeros set, move by a unit less one spacing; groom does both, at places 0 and 1
+  pub shave-whole : by (tail shave 7) 0 0x3F80FFFF + spacingAt 0x3F80FFFF ≡ unitAt (tail shave 7) 0x3F80FFFF
+  pub set-whole : by (tail set 7) 0 0x3F800000 + spacingAt 0x3F800000 ≡ unitAt (tail set 7) 0x3F800000
+  pub groom-whole :
+      (by (tail groom 7) 0 0x3F80FFFF + spacingAt 0x3F80FFFF ≡ unitAt (tail groom 7) 0x3F80FFFF)
+      × (by (tail groom 7) 1 0x3F800000 + spacingAt 0x3F800000 ≡ unitAt (tail groom 7) 0x3F800000)
+  -- 1 halfshaved, and the tie 3F808000 rounded, move by half a unit
+  pub halfshave-half : 2 * by (tail halfshave 7) 0 0x3F800000 ≡ unitAt (tail halfshave 7) 0x3F800000
+  pub round-half : 2 * by (round 7) 0 0x3F808000 ≡ unitAt (round 7) 0x3F808000
+  -- 0.5 rounded to whole numbers, p = 0 (P7), moves by half of them
+  pub absolute-half : 2 * by (absolute 149) 0 0x3F000000 ≡ unitAt (absolute 149) 0x3F000000
+  -- where they clip, half is passed: the largest single rounded to 7 keep bits (P6), and to multiples of 2 ^ 127
+  pub round-clipped :
+      (clips 23 8 (round 7) (magnitude 23 8 0x7F7FFFFF) ≡ true) × (by (round 7) 0 0x7F7FFFFF + spacingAt 0x7F7FFFFF ≡ unitAt (round 7) 0x7F7FFFFF)
+  pub absolute-clipped :
+      (clips 23 8 (absolute 276) (magnitude 23 8 0x7F7FFFFF) ≡ true) × (by (absolute 276) 0 0x7F7FFFFF + spacingAt 0x7F7FFFFF ≡ unitAt (absolute 276) 0x7F7FFFFF)
