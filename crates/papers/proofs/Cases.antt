@@ -1,8 +1,9 @@
 -- The cases, by computing them.
 use mathlib.Core.Path.{refl}
+use lib.Dec.{lit<}
 use Rattle.meaning.proofs.CasesRows.{afterAll}
 use Rattle.papers.specs.Moved.{moved}
-use Rattle.papers.specs.Cases.{Attained}
+use Rattle.papers.specs.Cases.{Attained, Subnormal}
 
 pub attained : Attained
 unfolding afterAll moved
@@ -16,4 +17,9 @@ attained =
       absolute-half = refl;
       round-clipped = (refl, refl);
       absolute-clipped = (refl, refl);
+      halfshave-relative = refl;
     }
+
+pub subnormal : Subnormal
+unfolding afterAll moved
+subnormal = record { shave-beyond = lit< tt; set-beyond = lit< tt; halfshave-beyond = lit< tt; round-beyond = lit< tt }

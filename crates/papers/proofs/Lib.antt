@@ -4,3 +4,4 @@ pub mod TailValues
 pub mod Steps
 pub mod Bounds
 pub mod Cases
+pub mod Relative

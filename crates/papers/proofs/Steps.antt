@@ -98,7 +98,7 @@ module _ (F : ℕ) where
       agree-size m (m / 2 ^ t * 2 ^ t) (m % 2 ^ t) t h (sym (mul-div-cancel (m / 2 ^ t) (pow-pos t))) (sym (div-add-mod' m (2 ^ t)))
 
   -- the nearer of S and S + 2^t
-  round-step : (t m : ℕ) → t ≤ F
+  pub round-step : (t m : ℕ) → t ≤ F
       → (2 * distance (size F m) (size F (rounded t m)) ≤ 2 ^ t * spacing F m) × (distance (size F m) (size F (rounded t m)) + spacing F m ≤ 2 ^ t * spacing F m)
   unfolding distance
   round-step t m h = go (ℕ-discrete (nearest m g) (m / g))

@@ -1,10 +1,10 @@
 -- 001 and 003: the distance that one call can move a reading, by the unit (003's quantum). Every pattern may be the reading and the mark.
 use mathlib.Core.Path.{_≡_}
 use mathlib.Core.Bool.{false}
-use Prim.Native.Nat.{ℕ, _+_, _*_, _≤_, _<_}
+use Prim.Native.Nat.{ℕ, _+_, _*_, _^_, _≤_, _<_}
 use Rattle.meaning.specs.Readings.{magnitude}
 use Rattle.meaning.specs.Methods.{TailMethod, tail, halfshave, round, absolute, clips}
-use Rattle.papers.specs.Moved.{moved, spacingOf, unitOf}
+use Rattle.papers.specs.Moved.{moved, sizeOf, spacingOf, unitOf, Normal}
 
 pub record UnitBounds (F X : ℕ) : Type 0 where
   -- 003, section 3: at most a full quantum for shave, set and groom. Never the whole of it: at most a unit less one spacing.
@@ -17,3 +17,12 @@ pub record UnitBounds (F X : ℕ) : Type 0 where
   -- 003, section 5, and 001, section 2.3 (Decimal Rounding): within half of the least bit's value, 2 ^ p. True unless it clips; then it is less than 2 ^ p.
   pub absolute-moves : (q mark place w : ℕ) → clips F X (absolute q) (magnitude F X w) ≡ false → 2 * moved F X (absolute q) mark place w ≤ unitOf F X (absolute q) w
   pub absolute-always : (q mark place w : ℕ) → moved F X (absolute q) mark place w < unitOf F X (absolute q) w
+
+-- 003, Table 1: the largest error as a part of the reading, with k keep bits (one less than the table's mantissa bits): 2 ^ -k for shave, set and groom, and half of
+-- that for round and halfshave. True of normal readings; only halfshave attains it. The figures printed for k = 7 and k = 8 as 0.5 % and 0.25 % are coarser, and 3.1 %
+-- for k = 4 is too small: halfshave reaches 3.125 %.
+pub record RelativeBounds (F X : ℕ) : Type 0 where
+  pub tail-relative : (c : TailMethod) (k mark place w : ℕ) → Normal F X w → moved F X (tail c k) mark place w * 2 ^ k < sizeOf F X w
+  pub halfshave-relative : (k mark place w : ℕ) → Normal F X w → moved F X (tail halfshave k) mark place w * 2 ^ (k + 1) ≤ sizeOf F X w
+  -- also where it clips, since only readings just below a power of two clip
+  pub round-relative : (k mark place w : ℕ) → Normal F X w → moved F X (round k) mark place w * 2 ^ (k + 1) < sizeOf F X w

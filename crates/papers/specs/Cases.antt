@@ -1,14 +1,17 @@
 -- Single readings that attain a bound, and counterexamples to claims as they are printed. Each is computed. The mark is 7CF00000 where none is named.
 use mathlib.Core.Path.{_≡_}
 use mathlib.Core.Bool.{true}
-use Prim.Native.Nat.{ℕ, _+_, _*_}
+use Prim.Native.Nat.{ℕ, _+_, _*_, _^_, _<_}
 use Rattle.meaning.specs.Readings.{magnitude}
 use Rattle.meaning.specs.Methods.{Method, tail, shave, set, groom, halfshave, round, absolute, clips}
-use Rattle.papers.specs.Moved.{moved, spacingOf, unitOf}
+use Rattle.papers.specs.Moved.{moved, sizeOf, spacingOf, unitOf}
 
--- by how many least spacings a call moves a single at a place; the spacing and the unit there
+-- by how many least spacings a call moves a single at a place; the size, the spacing and the unit there
 abbrev by : Method → ℕ → ℕ → ℕ
 by x place w = moved 23 8 x 0x7CF00000 place w
+
+abbrev sizeAt : ℕ → ℕ
+sizeAt w = sizeOf 23 8 w
 
 abbrev spacingAt : ℕ → ℕ
 spacingAt w = spacingOf 23 8 w
@@ -34,3 +37,13 @@ pub record Attained : Type 0 where
       (clips 23 8 (round 7) (magnitude 23 8 0x7F7FFFFF) ≡ true) × (by (round 7) 0 0x7F7FFFFF + spacingAt 0x7F7FFFFF ≡ unitAt (round 7) 0x7F7FFFFF)
   pub absolute-clipped :
       (clips 23 8 (absolute 276) (magnitude 23 8 0x7F7FFFFF) ≡ true) × (by (absolute 276) 0 0x7F7FFFFF + spacingAt 0x7F7FFFFF ≡ unitAt (absolute 276) 0x7F7FFFFF)
+  -- and of `RelativeBounds` by 1 halfshaved, whose size is 2 ^ 149
+  pub halfshave-relative : by (tail halfshave 7) 0 0x3F800000 * 2 ^ 8 ≡ sizeAt 0x3F800000
+
+-- 003, Table 1, fails below the normal readings: with 7 keep bits shave takes the least subnormal to zero, and set takes it to
+-- 65,535 times its size; halfshave, and round next to a tie, move by far more than a 256th.
+pub record Subnormal : Type 0 where
+  pub shave-beyond : sizeAt 0x00000001 < by (tail shave 7) 0 0x00000001 * 2 ^ 7
+  pub set-beyond : sizeAt 0x00000001 < by (tail set 7) 0 0x00000001 * 2 ^ 7
+  pub halfshave-beyond : sizeAt 0x00000001 < by (tail halfshave 7) 0 0x00000001 * 2 ^ 8
+  pub round-beyond : sizeAt 0x00008001 < by (round 7) 0 0x00008001 * 2 ^ 8
