@@ -3,7 +3,7 @@ use mathlib.Core.Path.{refl}
 use lib.Dec.{lit<}
 use Rattle.meaning.proofs.CasesRows.{afterAll}
 use Rattle.papers.specs.Moved.{moved}
-use Rattle.papers.specs.Cases.{Attained, Subnormal}
+use Rattle.papers.specs.Cases.{Attained, Subnormal, Printed, DecimalBeyond}
 
 pub attained : Attained
 unfolding afterAll moved
@@ -23,3 +23,11 @@ attained =
 pub subnormal : Subnormal
 unfolding afterAll moved
 subnormal = record { shave-beyond = lit< tt; set-beyond = lit< tt; halfshave-beyond = lit< tt; round-beyond = lit< tt }
+
+pub printed : Printed
+unfolding afterAll moved
+printed = record { halfshave-more = lit< tt; set-more = lit< tt }
+
+pub decimal-beyond : DecimalBeyond
+unfolding afterAll moved
+decimal-beyond = record { subnormal-digit = lit< tt; hundreds = lit< tt }

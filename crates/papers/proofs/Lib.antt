@@ -3,5 +3,6 @@ pub mod Apart
 pub mod TailValues
 pub mod Steps
 pub mod Bounds
-pub mod Cases
 pub mod Relative
+pub mod Decimal
+pub mod Cases

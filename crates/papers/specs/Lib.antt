@@ -1,4 +1,5 @@
 -- Claims of the papers, each stated of one reading and one call, or of one layer; docs/PAPERS.md is their index. 001 is Zender (2016), 003 is Kouznetsov (2021).
 pub mod Moved
 pub mod Bounds
+pub mod Decimal
 pub mod Cases
