@@ -3,7 +3,7 @@ use mathlib.Core.Path.{refl}
 use lib.Dec.{lit<}
 use Rattle.meaning.proofs.CasesRows.{afterAll}
 use Rattle.papers.specs.Moved.{moved}
-use Rattle.papers.specs.Cases.{Attained, Subnormal, Printed, DecimalBeyond}
+use Rattle.papers.specs.Cases.{Attained, Subnormal, Printed, DecimalBeyond, DigitsAgain}
 
 pub attained : Attained
 unfolding afterAll moved
@@ -18,6 +18,7 @@ attained =
       round-clipped = (refl, refl);
       absolute-clipped = (refl, refl);
       halfshave-relative = refl;
+      digits-half = refl;
     }
 
 pub subnormal : Subnormal
@@ -31,3 +32,7 @@ printed = record { halfshave-more = lit< tt; set-more = lit< tt }
 pub decimal-beyond : DecimalBeyond
 unfolding afterAll moved
 decimal-beyond = record { subnormal-digit = lit< tt; hundreds = lit< tt }
+
+pub digits-again : DigitsAgain
+unfolding afterAll moved
+digits-again = record { once-more = (refl, refl); two-cycle = (refl, refl) }

@@ -5,4 +5,5 @@ pub mod Steps
 pub mod Bounds
 pub mod Relative
 pub mod Decimal
+pub mod DigitRounding
 pub mod Cases

@@ -3,7 +3,7 @@ use mathlib.Core.Path.{_≡_}
 use mathlib.Core.Bool.{true}
 use Prim.Native.Nat.{ℕ, _+_, _*_, _^_, _<_}
 use Rattle.meaning.specs.Readings.{magnitude}
-use Rattle.meaning.specs.Methods.{Method, tail, shave, set, groom, halfshave, round, absolute, decade, clips}
+use Rattle.meaning.specs.Methods.{Method, tail, shave, set, groom, halfshave, round, absolute, digits, decade, digitStep, clips, trimmed}
 use Rattle.papers.specs.Moved.{moved, sizeOf, spacingOf, unitOf}
 
 -- by how many least spacings a call moves a single at a place; the size, the spacing and the unit there
@@ -19,7 +19,11 @@ spacingAt w = spacingOf 23 8 w
 abbrev unitAt : Method → ℕ → ℕ
 unitAt x w = unitOf 23 8 x w
 
--- The bounds of `UnitBounds` are attained.
+-- what a call leaves of it at place 0
+abbrev left : Method → ℕ → ℕ
+left x w = trimmed 23 8 x 0x7CF00000 0 w
+
+-- The bounds are attained.
 pub record Attained : Type 0 where
   -- 7 keep bits: a tail of ones shaved, and a tail of zeros set, move by a unit less one spacing; groom does both, at places 0 and 1
   pub shave-whole : by (tail shave 7) 0 0x3F80FFFF + spacingAt 0x3F80FFFF ≡ unitAt (tail shave 7) 0x3F80FFFF
@@ -37,8 +41,10 @@ pub record Attained : Type 0 where
       (clips 23 8 (round 7) (magnitude 23 8 0x7F7FFFFF) ≡ true) × (by (round 7) 0 0x7F7FFFFF + spacingAt 0x7F7FFFFF ≡ unitAt (round 7) 0x7F7FFFFF)
   pub absolute-clipped :
       (clips 23 8 (absolute 276) (magnitude 23 8 0x7F7FFFFF) ≡ true) × (by (absolute 276) 0 0x7F7FFFFF + spacingAt 0x7F7FFFFF ≡ unitAt (absolute 276) 0x7F7FFFFF)
-  -- and of `RelativeBounds` by 1 halfshaved, whose size is 2 ^ 149
+  -- 1 halfshaved moves by 2 ^ -8 of its size
   pub halfshave-relative : by (tail halfshave 7) 0 0x3F800000 * 2 ^ 8 ≡ sizeAt 0x3F800000
+  -- 3 to one digit, where q is 1, moves by half of it (002, equation 2)
+  pub digits-half : 2 * by (digits 1) 0 0x40400000 ≡ digitStep 23 8 1 0x40400000
 
 -- 003, Table 1, fails below the normal readings: with 7 keep bits shave takes the least subnormal to zero, and set takes it to
 -- 65,535 times its size; halfshave, and round next to a tie, move by far more than a 256th.
@@ -59,3 +65,10 @@ pub record DecimalBeyond : Type 0 where
   pub subnormal-digit : 10 ^ decade 23 8 0x00000001 * 2 ^ 149 < 2 * by (tail shave 5) 0 0x00000001 * 10 ^ (149 + 1)
   -- Decimal Rounding to hundreds with section 2.3's scale of 1/128, so with the unit 2 ^ 7: 64 goes to 0, and 50 is half of a hundred
   pub hundreds : 50 * 2 ^ 149 < by (absolute (149 + 7)) 0 0x42800000
+
+-- 002 says nothing of a second call; it can change the reading again, and go on for ever.
+pub record DigitsAgain : Type 0 where
+  -- P9: 0.1 to one digit is 3DC00000, which to one digit is 3DC80000
+  pub once-more : (left (digits 1) 0x3DCCCCCD ≡ 0x3DC00000) × (left (digits 1) 0x3DC00000 ≡ 0x3DC80000)
+  -- 100 to one digit is 96, and 96 to one digit is 100
+  pub two-cycle : (left (digits 1) 0x42C80000 ≡ 0x42C00000) × (left (digits 1) 0x42C00000 ≡ 0x42C80000)

@@ -2,4 +2,5 @@
 pub mod Moved
 pub mod Bounds
 pub mod Decimal
+pub mod DigitRounding
 pub mod Cases

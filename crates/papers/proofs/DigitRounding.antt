@@ -1,0 +1,226 @@
+-- 002's equations. The step is a power of two that is at most the size, so its multiples are the shaved magnitudes of the reading's binade, and their midpoints the halfshaved ones.
+use mathlib.Core.Path.{_≡_, refl, sym, ap, _∙_}
+use mathlib.Core.Logic.{_⊎_, inl, inr, _≢_}
+use Prim.Native.Nat.{ℕ, zero, suc, _+_, _-_, _*_, _/_, _%_, _^_, _≤_, _<_, zero-le}
+use native.Mathlib.Nat.{mul-le-mul-left, mul-le-mul-right, pow-suc, pow-le-pow-right, one-le-pow, le-trans, le-of-mul-le-mul-right, div-mul-le-self, div-eq-of-lt-le, pos-of-ne-zero, sub-le, sub-self, mul-lt-mul-of-pos-right, mod-lt, mul-div-cancel}
+use native.Mathlib.Decide.{decLe, decLt, ℕ-discrete}
+use native.Mathlib.Omega.{arith}
+use borrow.Author.Tests.{eq-eqb, ne-eqb, lt-ltb, le-ltb}
+use lib.Pow.{pow-pos, pow-add, pow-mono}
+use Rattle.meaning.specs.Readings.{size, distance, spacing, spacingExp, exponentField, magnitude, infinity, magnitudeOf, leastExp}
+use Rattle.meaning.specs.Methods.{tail, halfshave, digits, unit, digitCount, decade, digitStep, digitSize, tailChanged, shaved, newMagnitude}
+use Rattle.meaning.proofs.Sizes.{Form, form, size-form, size-at}
+use Rattle.meaning.proofs.Patterns.{magnitudeOf-size}
+use Rattle.meaning.proofs.Powers.{pow-split, pow-le}
+use Rattle.meaning.proofs.Grid.{Grid, grid, shaved-is}
+use Rattle.meaning.proofs.Tails.{agree-up, agree-finite, tail-changed-agree}
+use Rattle.meaning.proofs.Digits.{Decade, decade-rule, digit-count}
+use Rattle.papers.specs.Moved.{moved}
+use Rattle.papers.specs.DigitRounding.{AsHalfshave, DigitBounds}
+use Rattle.papers.proofs.Apart.{distance-self, left-has, moved-has}
+use Rattle.papers.proofs.TailValues.{halfshave-none, halfshave-some}
+use Rattle.papers.proofs.Steps.{shaved-size, halfshave-step}
+
+module _ (F X : ℕ) where
+  abbrev B : ℕ
+  B = leastExp F X
+
+  -- ---- the step
+
+  -- none, or a power of two; at most 10 ^ (d - n)
+  record Step (n m q : ℕ) : Type 0 where
+    power : (q ≡ 0) ⊎ ((j : ℕ) × (q ≡ 2 ^ j))
+    under : q * 10 ^ (B + n) ≤ 10 ^ decade F X m * 2 ^ B
+
+  step : (n m : ℕ) → Step n m (digitStep F X n m)
+  unfolding digitStep
+  step n m = go (ℕ-discrete power 0)
+    where
+      power : ℕ
+      power = 2 ^ B * 10 ^ decade F X m / 10 ^ (B + n)
+
+      go : Dec (power ≡ 0) → Step n m (digitStep F X n m)
+      go (yes z) = rw (eq-eqb power 0 z) (record { power = inl refl; under = omega arith })
+      go (no z) =
+          let d = digit-count 2 (omega arith) power (pos-of-ne-zero z) in
+          let e : digitCount 2 power - 1 ≡ d .one-less = omega (arith, d .is) in
+          rw (ne-eqb power 0 z, e)
+          (record {
+            power = inr (d .one-less, refl);
+            under = omega (arith, mul-le-mul-right (10 ^ (B + n)) (d .least), div-mul-le-self (2 ^ B * 10 ^ decade F X m) (10 ^ (B + n)));
+          })
+
+  -- at most the size
+  step-size : (n m : ℕ) → 1 ≤ n → 0 < m → digitStep F X n m ≤ size F m
+  step-size n m h p = go (decade-rule F X m p)
+    where
+      q : ℕ
+      q = digitStep F X n m
+
+      go : Decade F X m (decade F X m) → q ≤ size F m
+      go d =
+          let a : q * 10 ^ (B + n) ≤ 10 ^ d .one-less * 10 * 2 ^ B = rw (d .is, pow-suc 10 (d .one-less)) at (step n m .under) in
+          let ten : 10 ≤ 10 ^ n = pow-le-pow-right {n = 10} (omega arith) {i = 1} {j = n} h in
+          le-of-mul-le-mul-right {k = 10 ^ (B + n)}
+          (rw (pow-add 10 B n) (omega (arith, rw (pow-add 10 B n) at a, d .reaches, mul-le-mul-left (size F m * 10 ^ B) ten)))
+          (one-le-pow (B + n) 10 (omega arith))
+
+  -- ---- a step of suc u bits beside the spacing
+
+  module _ (n m u : ℕ) (h : suc u ≤ F) (p : m ≢ 0) (e : digitStep F X n m ≡ 2 ^ suc u * spacing F m) where
+    -- (j + 1/2) q is the size of the halfshaved magnitude
+    midpoint : (place : ℕ) → digitSize F X n m ≡ size F (tailChanged halfshave place (suc u) m)
+    unfolding digitSize spacing shaved
+    midpoint place = go (grid F m (suc u) h)
+      where
+        g : ℕ
+        g = 2 ^ suc u
+
+        c : ℕ
+        c = spacingExp F m
+
+        s : ℕ
+        s = 2 ^ c
+
+        above : (b : Grid F m (suc u)) → (c ≡ 0) ⊎ (2 ^ F ≤ b .whole * g) → (c ≡ 0) ⊎ (2 ^ F ≤ b .whole * g + 2 ^ u)
+        above b (inl z) = inl z
+        above b (inr l) = inr (omega arith)
+
+        low : (b : Grid F m (suc u)) → size F (m / g * g) ≡ b .whole * g * s
+        low b = rw (shaved-is F m (suc u) h b) (size-at F c (b .whole * g) (b .low) (omega (arith, b .top)))
+
+        whole : (b : Grid F m (suc u)) → size F m / (g * s) ≡ b .whole
+        whole b =
+            let r : m % g * s < g * s = mul-lt-mul-of-pos-right (mod-lt m (pow-pos (suc u))) (pow-pos c) in
+            div-eq-of-lt-le (g * s) (omega (arith, low b, shaved-size F (suc u) m h)) (omega (arith, low b, shaved-size F (suc u) m h))
+
+        half : g * s / 2 ≡ 2 ^ u * s
+        half = ap (λ (x : ℕ). x / 2) (let z : g * s ≡ 2 ^ u * s * 2 = rw (pow-suc 2 u) (omega arith) in z) ∙ mul-div-cancel (2 ^ u * s) {n = 2} (omega arith)
+
+        go : Grid F m (suc u) → digitSize F X n m ≡ size F (tailChanged halfshave place (suc u) m)
+        go b =
+            let w : 2 * s ≤ g * s = rw (pow-suc 2 u) (omega (arith, mul-le-mul-right s (pow-pos u))) in
+            let i : tailChanged halfshave place (suc u) m ≡ c * 2 ^ F + (b .whole * g + 2 ^ u) = halfshave-some place u m p ∙ omega (arith, shaved-is F m (suc u) h b) in
+            rw (e, le-ltb (g * s) (2 * s) w, whole b, half, i, size-at F c (b .whole * g + 2 ^ u) (above b (b .low)) (omega (arith, b .top, pow-suc 2 u)))
+            (omega arith)
+
+  -- ---- every finite magnitude
+
+  record Lands (n place m : ℕ) : Type 0 where
+    as-halfshave : AsHalfshave F X n place m
+    exact : m ≢ 0 → size F (newMagnitude F X (digits n) place m) ≡ digitSize F X n m
+
+  digits-zero : (n place m : ℕ) → m ≡ 0 → newMagnitude F X (digits n) place m ≡ m
+  unfolding newMagnitude
+  digits-zero n place m z = rw (eq-eqb m 0 z) refl
+
+  -- the magnitude v has the new size
+  digits-some : (n place m v : ℕ) → m ≢ 0 → v < infinity F X → digitSize F X n m ≡ size F v → newMagnitude F X (digits n) place m ≡ v
+  unfolding newMagnitude
+  digits-some n place m v z f e = rw (ne-eqb m 0 z, e) (magnitudeOf-size F X v f)
+
+  -- unchanged, as by halfshave with all bits kept
+  stays : (n place m : ℕ) → newMagnitude F X (digits n) place m ≡ m → (m ≢ 0 → digitSize F X n m ≡ size F m) → Lands n place m
+  unfolding newMagnitude
+  stays n place m e d =
+      record {
+        as-halfshave = record { keep = F; same = e ∙ sym (rw (sub-self F) (halfshave-none place m)); step = inl refl };
+        exact = λ z. rw (e, d z) refl;
+      }
+
+  -- a step below two spacings
+  small : (n m : ℕ) → digitStep F X n m < 2 * spacing F m → digitSize F X n m ≡ size F m
+  unfolding digitSize
+  small n m l = rw (lt-ltb (digitStep F X n m) (2 * spacing F m) l) refl
+
+  -- a step of suc u bits beside the spacing
+  moves : (n place m u : ℕ) → suc u ≤ F → m ≢ 0 → m < infinity F X → digitStep F X n m ≡ 2 ^ suc u * spacing F m → Lands n place m
+  unfolding unit newMagnitude
+  moves n place m u h z f e =
+      record { as-halfshave = record { keep = F - suc u; same = rw i new; step = inr (rw i (sym e)) }; exact = λ z. rw new (sym mid) }
+    where
+      i : F - (F - suc u) ≡ suc u
+      i = omega arith
+
+      v : ℕ
+      v = tailChanged halfshave place (suc u) m
+
+      mid : digitSize F X n m ≡ size F v
+      mid = midpoint n m u h z e place
+
+      new : newMagnitude F X (digits n) place m ≡ v
+      new = digits-some n place m v z (agree-finite F X v m (suc u) h (tail-changed-agree halfshave place (suc u) m) f) mid
+
+  size-under : (m : ℕ) → size F m < 2 ^ (suc F + spacingExp F m)
+  size-under m = go (form F m)
+    where
+      go : Form F m → size F m < 2 ^ (suc F + spacingExp F m)
+      go g =
+          let a : g .sig * 2 ^ spacingExp F m < 2 * 2 ^ F * 2 ^ spacingExp F m = mul-lt-mul-of-pos-right (g .below) (pow-pos (spacingExp F m)) in
+          rw (size-form F m g, pow-add 2 (suc F) (spacingExp F m), pow-suc 2 F) (omega arith)
+
+  lands : (n place m : ℕ) → 1 ≤ n → m < infinity F X → Lands n place m
+  unfolding spacing
+  lands n place m h f = go (ℕ-discrete m 0)
+    where
+      q : ℕ
+      q = digitStep F X n m
+
+      c : ℕ
+      c = spacingExp F m
+
+      -- j is the exponent of the step: above the spacing's, and at most that of the size
+      at : (j : ℕ) → m ≢ 0 → q ≡ 2 ^ j → suc c ≤ j → Dec (j ≤ F + c) → Lands n place m
+      at j z e a (yes b) =
+          let i : suc (j - suc c) ≡ j - c = omega arith in
+          moves n place m (j - suc c) (omega arith) z f (e ∙ rw i (pow-split j c (omega arith)))
+      at j z e a (no b) =
+          absurd (omega (arith, step-size n m h (pos-of-ne-zero z), size-under m, pow-mono {i = suc F + c} {j = j} (omega arith)))
+
+      either : m ≢ 0 → 2 * 2 ^ c ≤ q → (q ≡ 0) ⊎ ((j : ℕ) × (q ≡ 2 ^ j)) → Lands n place m
+      either z l (inl o) = absurd (omega (arith, pow-pos c))
+      either z l (inr (j, e)) = at j z e (pow-le (rw (pow-suc 2 c) (omega arith))) (decLe j (F + c))
+
+      some : m ≢ 0 → Dec (q < 2 * 2 ^ c) → Lands n place m
+      some z (yes l) = stays n place m (digits-some n place m m z f (small n m l)) (λ _. small n m l)
+      some z (no l) = either z (omega arith) (step n m .power)
+
+      go : Dec (m ≡ 0) → Lands n place m
+      go (yes z) = stays n place m (digits-zero n place m z) (λ x. absurd (x z))
+      go (no z) = some z (decLt q (2 * 2 ^ c))
+
+  -- ---- what follows
+
+  half-moved : (n place m : ℕ) → 1 ≤ n → m < infinity F X → 2 * distance (size F m) (size F (newMagnitude F X (digits n) place m)) ≤ digitStep F X n m
+  unfolding unit newMagnitude
+  half-moved n place m h f = go (lands n place m h f .as-halfshave)
+    where
+      by : (k : ℕ) → (k ≡ F) ⊎ (2 ^ (F - k) * spacing F m ≡ digitStep F X n m) → 2 * distance (size F m) (size F (tailChanged halfshave place (F - k) m)) ≤ digitStep F X n m
+      by k (inl e) = rw (e, sub-self F, halfshave-none place m, distance-self (size F m)) zero-le
+      by k (inr e) = rw e at (halfshave-step F place (F - k) m (sub-le F k))
+
+      go : AsHalfshave F X n place m → 2 * distance (size F m) (size F (newMagnitude F X (digits n) place m)) ≤ digitStep F X n m
+      go a = rw (a .same) (by (a .keep) (a .step))
+
+  halfshave-field : (k place m : ℕ) → exponentField F (newMagnitude F X (tail halfshave k) place m) ≡ exponentField F m
+  unfolding newMagnitude exponentField
+  halfshave-field k place m = agree-up (tailChanged halfshave place (F - k) m) m (F - k) F (sub-le F k) (tail-changed-agree halfshave place (F - k) m)
+
+  field-kept : (n place m : ℕ) → 1 ≤ n → m < infinity F X → exponentField F (newMagnitude F X (digits n) place m) ≡ exponentField F m
+  field-kept n place m h f = let a = lands n place m h f .as-halfshave in ap (exponentField F) (a .same) ∙ halfshave-field (a .keep) place m
+
+  half-step : (n mark place w : ℕ) → 1 ≤ n → 2 * moved F X (digits n) mark place w ≤ digitStep F X n (magnitude F X w)
+  half-step n mark place w h =
+      moved-has F X (digits n) h place w mark (λ d. 2 * d ≤ digitStep F X n (magnitude F X w)) zero-le (λ f. half-moved n place (magnitude F X w) h f)
+
+  pub digit-bounds : DigitBounds F X
+  digit-bounds =
+      record {
+        exact = λ n place m h p f. lands n place m h f .exact (λ z. absurd (omega arith));
+        bits-kept = λ n place m h f. lands n place m h f .as-halfshave;
+        half-step = half-step;
+        step-below = λ n m. step n m .under;
+        half-digit = λ n mark place w h. le-trans (mul-le-mul-right (10 ^ (B + n)) (half-step n mark place w h)) (step n (magnitude F X w) .under);
+        exponent-stays = λ n mark place w h.
+            left-has F X (digits n) h place w mark (λ v. exponentField F v ≡ exponentField F (magnitude F X w)) refl (λ f. field-kept n place (magnitude F X w) h f);
+      }

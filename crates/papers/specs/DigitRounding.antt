@@ -1,0 +1,29 @@
+-- 002: Digit Rounding, which is method 6, with n digits. `digitStep` is the paper's q in least spacings, and `decade` is d + leastExp, with the exact d of equation 3.
+use mathlib.Core.Path.{_≡_}
+use mathlib.Core.Logic.{_⊎_}
+use Prim.Native.Nat.{ℕ, _+_, _*_, _^_, _≤_, _<_}
+use Rattle.meaning.specs.Readings.{size, exponentField, magnitude, infinity, leastExp}
+use Rattle.meaning.specs.Methods.{tail, halfshave, digits, unit, decade, digitStep, digitSize, newMagnitude, trimmed}
+use Rattle.papers.specs.Moved.{moved}
+
+-- With k keep bits halfshave does what digits does to a magnitude: nothing with all of them, and else its unit is q.
+pub record AsHalfshave (F X n place m : ℕ) : Type 0 where
+  pub keep : ℕ
+  pub same : newMagnitude F X (digits n) place m ≡ newMagnitude F X (tail halfshave keep) place m
+  pub step : (keep ≡ F) ⊎ (unit F (tail halfshave keep) m ≡ digitStep F X n m)
+
+pub record DigitBounds (F X : ℕ) : Type 0 where
+  -- Equation 1: the result has exactly the size (j + 1/2) q, or is the reading where q is below two spacings. Nothing is rounded.
+  pub exact : (n place m : ℕ) → 1 ≤ n → 0 < m → m < infinity F X → size F (newMagnitude F X (digits n) place m) ≡ digitSize F X n m
+  -- Section 3, of Table 2: some bits of the fraction are kept, the next is one and the rest are zero
+  pub bits-kept : (n place m : ℕ) → 1 ≤ n → m < infinity F X → AsHalfshave F X n place m
+  -- Equation 2: every reading moves by at most q / 2
+  pub half-step : (n mark place w : ℕ) → 1 ≤ n → 2 * moved F X (digits n) mark place w ≤ digitStep F X n (magnitude F X w)
+  -- Equations 5 to 7: q is at most 10 ^ (d - n)
+  pub step-below : (n m : ℕ) → digitStep F X n m * 10 ^ (leastExp F X + n) ≤ 10 ^ decade F X m * 2 ^ leastExp F X
+  -- Equation 4: and so every reading moves by at most half a unit of its n-th digit
+  pub half-digit : (n mark place w : ℕ) → 1 ≤ n
+      → 2 * moved F X (digits n) mark place w * 10 ^ (leastExp F X + n) ≤ 10 ^ decade F X (magnitude F X w) * 2 ^ leastExp F X
+  -- It keeps the exponent field of every reading, so nothing can pass the largest finite one: there is no clip.
+  pub exponent-stays : (n mark place w : ℕ) → 1 ≤ n
+      → exponentField F (magnitude F X (trimmed F X (digits n) mark place w)) ≡ exponentField F (magnitude F X w)
