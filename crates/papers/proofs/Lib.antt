@@ -6,4 +6,5 @@ pub mod Bounds
 pub mod Relative
 pub mod Decimal
 pub mod DigitRounding
+pub mod Repetition
 pub mod Cases

@@ -3,4 +3,5 @@ pub mod Moved
 pub mod Bounds
 pub mod Decimal
 pub mod DigitRounding
+pub mod Repetition
 pub mod Cases
