@@ -3,7 +3,7 @@ use mathlib.Core.Path.{refl}
 use lib.Dec.{lit<}
 use Rattle.meaning.proofs.CasesRows.{afterAll}
 use Rattle.papers.specs.Moved.{moved}
-use Rattle.papers.specs.Cases.{Attained, Subnormal, Printed, DecimalBeyond, DigitsAgain}
+use Rattle.papers.specs.Cases.{Attained, Subnormal, Printed, DecimalBeyond, DigitsAgain, HalfshaveGroomed}
 
 pub attained : Attained
 unfolding afterAll moved
@@ -36,3 +36,7 @@ decimal-beyond = record { subnormal-digit = lit< tt; hundreds = lit< tt }
 pub digits-again : DigitsAgain
 unfolding afterAll moved
 digits-again = record { once-more = (refl, refl); two-cycle = (refl, refl) }
+
+pub halfshave-groomed : HalfshaveGroomed
+unfolding afterAll
+halfshave-groomed = record { zero-made = (refl, refl); mark-made = (refl, refl) }

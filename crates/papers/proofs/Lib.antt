@@ -7,4 +7,5 @@ pub mod Relative
 pub mod Decimal
 pub mod DigitRounding
 pub mod Repetition
+pub mod Halfshaving
 pub mod Cases

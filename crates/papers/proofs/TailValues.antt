@@ -2,7 +2,8 @@
 use mathlib.Core.Path.{_≡_, refl, sym, _∙_}
 use mathlib.Core.Logic.{_≢_}
 use Prim.Native.Nat.{ℕ, zero, suc, _+_, _-_, _*_, _/_, _%_, _^_}
-use native.Mathlib.Nat.{div-add-mod', mod-lt, div-one}
+use native.Mathlib.Nat.{div-add-mod', mod-lt, div-one, zero-div, zero-mul}
+use native.Mathlib.Decide.{ℕ-discrete}
 use native.Mathlib.Omega.{arith}
 use borrow.Author.Tests.{eq-eqb, ne-eqb}
 use lib.Pow.{pow-pos}
@@ -28,6 +29,13 @@ groom-even place t m z = rw (eq-eqb (place % 2) 0 z) refl
 pub groom-odd : (place t m : ℕ) → place % 2 ≢ 0 → tailChanged groom place t m ≡ tailChanged set place t m
 unfolding tailChanged
 groom-odd place t m z = rw (ne-eqb (place % 2) 0 z) refl
+
+pub groom-zero : (place t : ℕ) → tailChanged groom place t 0 ≡ 0
+groom-zero place t = go (ℕ-discrete (place % 2) 0)
+  where
+    go : Dec (place % 2 ≡ 0) → tailChanged groom place t 0 ≡ 0
+    go (yes z) = groom-even place t 0 z ∙ shave-is place t 0 ∙ rw (zero-div (2 ^ t)) (zero-mul (2 ^ t))
+    go (no z) = groom-odd place t 0 z ∙ set-zero place t
 
 pub halfshave-none : (place m : ℕ) → tailChanged halfshave place 0 m ≡ m
 unfolding tailChanged halfshaved

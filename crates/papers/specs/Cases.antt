@@ -72,3 +72,12 @@ pub record DigitsAgain : Type 0 where
   pub once-more : (left (digits 1) 0x3DCCCCCD ≡ 0x3DC00000) × (left (digits 1) 0x3DC00000 ≡ 0x3DC80000)
   -- 100 to one digit is 96, and 96 to one digit is 100
   pub two-cycle : (left (digits 1) 0x42C80000 ≡ 0x42C00000) × (left (digits 1) 0x42C00000 ≡ 0x42C80000)
+
+-- 003, section 3: halfshaving what groom left is not halfshaving the original, with 7 keep bits at place 0
+pub record HalfshaveGroomed : Type 0 where
+  -- where grooming made zero of 00000001, which halfshave leaves
+  pub zero-made : (left (tail halfshave 7) (left (tail groom 7) 0x00000001) ≡ 0x00000000) × (left (tail halfshave 7) 0x00000001 ≡ 0x00008000)
+  -- and where the mark is 40498000, which is pi halfshaved: neither is halfshaved, and grooming changed pi
+  pub mark-made :
+      (trimmed 23 8 (tail halfshave 7) 0x40498000 0 (trimmed 23 8 (tail groom 7) 0x40498000 0 0x40490FDB) ≡ 0x40490000)
+      × (trimmed 23 8 (tail halfshave 7) 0x40498000 0 0x40490FDB ≡ 0x40490FDB)

@@ -4,4 +4,5 @@ pub mod Bounds
 pub mod Decimal
 pub mod DigitRounding
 pub mod Repetition
+pub mod Halfshaving
 pub mod Cases
