@@ -19,6 +19,7 @@ attained =
       absolute-clipped = (refl, refl);
       halfshave-relative = refl;
       digits-half = refl;
+      pack-half = refl;
     }
 
 pub subnormal : Subnormal

@@ -8,4 +8,5 @@ pub mod Decimal
 pub mod DigitRounding
 pub mod Repetition
 pub mod Halfshaving
+pub mod LayerBounds
 pub mod Cases

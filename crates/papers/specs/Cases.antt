@@ -1,10 +1,12 @@
 -- Single readings that attain a bound, and counterexamples to claims as they are printed. Each is computed. The mark is 7CF00000 where none is named.
 use mathlib.Core.Path.{_≡_}
 use mathlib.Core.Bool.{true}
+use mathlib.Core.List.{[], _∷_}
 use Prim.Native.Nat.{ℕ, _+_, _*_, _^_, _<_}
-use Rattle.meaning.specs.Readings.{magnitude}
+use Rattle.meaning.specs.Readings.{magnitude, position, distance}
 use Rattle.meaning.specs.Methods.{Method, tail, shave, set, groom, halfshave, round, absolute, digits, decade, digitStep, clips, trimmed}
 use Rattle.papers.specs.Moved.{moved, sizeOf, spacingOf, unitOf}
+use Rattle.papers.specs.LayerBounds.{layer, meaningAt}
 
 -- by how many least spacings a call moves a single at a place; the size, the spacing and the unit there
 abbrev by : Method → ℕ → ℕ → ℕ
@@ -45,6 +47,9 @@ pub record Attained : Type 0 where
   pub halfshave-relative : by (tail halfshave 7) 0 0x3F800000 * 2 ^ 8 ≡ sizeAt 0x3F800000
   -- 3 to one digit, where q is 1, moves by half of it (002, equation 2)
   pub digits-half : 2 * by (digits 1) 0 0x40400000 ≡ digitStep 23 8 1 0x40400000
+  -- in the layer 00000000, 0000FFFF (P12) the larger reading's code lies half a step from it
+  pub pack-half :
+      2 * distance (position 23 8 0x0000FFFF) (meaningAt 0x7CF00000 (0x00000000 ∷ 0x0000FFFF ∷ []) 1) ≡ 2 ^ layer 0x7CF00000 (0x00000000 ∷ 0x0000FFFF ∷ []) .exponent
 
 -- 003, Table 1, fails below the normal readings: with 7 keep bits shave takes the least subnormal to zero, and set takes it to
 -- 65,535 times its size; halfshave, and round next to a tie, move by far more than a 256th.
