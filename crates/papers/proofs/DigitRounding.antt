@@ -2,7 +2,7 @@
 use mathlib.Core.Path.{_≡_, refl, sym, ap, _∙_}
 use mathlib.Core.Logic.{_⊎_, inl, inr, _≢_}
 use Prim.Native.Nat.{ℕ, zero, suc, _+_, _-_, _*_, _/_, _%_, _^_, _≤_, _<_, zero-le}
-use native.Mathlib.Nat.{mul-le-mul-left, mul-le-mul-right, pow-suc, pow-le-pow-right, one-le-pow, le-trans, le-of-mul-le-mul-right, div-mul-le-self, div-eq-of-lt-le, pos-of-ne-zero, sub-le, sub-self, mul-lt-mul-of-pos-right, mod-lt, mul-div-cancel}
+use native.Mathlib.Nat.{le-div-iff-mul-le, mul-le-mul-left, mul-le-mul-right, pow-suc, pow-le-pow-right, one-le-pow, le-trans, le-of-mul-le-mul-right, div-mul-le-self, div-eq-of-lt-le, pos-of-ne-zero, sub-le, sub-self, mul-lt-mul-of-pos-right, mod-lt, mul-div-cancel}
 use native.Mathlib.Decide.{decLe, decLt, ℕ-discrete}
 use native.Mathlib.Omega.{arith}
 use borrow.Author.Tests.{eq-eqb, ne-eqb, lt-ltb, le-ltb}
@@ -27,10 +27,11 @@ module _ (F X : ℕ) where
 
   -- ---- the step
 
-  -- none, or a power of two; at most 10 ^ (d - n)
+  -- none, or a power of two; the largest that is at most 10 ^ (d - n)
   record Step (n m q : ℕ) : Type 0 where
     power : (q ≡ 0) ⊎ ((j : ℕ) × (q ≡ 2 ^ j))
     under : q * 10 ^ (B + n) ≤ 10 ^ decade F X m * 2 ^ B
+    largest : (j : ℕ) → 2 ^ j * 10 ^ (B + n) ≤ 10 ^ decade F X m * 2 ^ B → 2 ^ j ≤ q
 
   step : (n m : ℕ) → Step n m (digitStep F X n m)
   unfolding digitStep
@@ -39,8 +40,15 @@ module _ (F X : ℕ) where
       power : ℕ
       power = 2 ^ B * 10 ^ decade F X m / 10 ^ (B + n)
 
+      fits : (j : ℕ) → 2 ^ j * 10 ^ (B + n) ≤ 10 ^ decade F X m * 2 ^ B → 2 ^ j ≤ power
+      fits j l = le-div-iff-mul-le (one-le-pow (B + n) 10 (omega arith)) .1 (omega arith)
+
+      most : (d j : ℕ) → power < 2 ^ suc d → 2 ^ j ≤ power → Dec (j ≤ d) → 2 ^ j ≤ 2 ^ d
+      most d j a l (yes h) = pow-mono h
+      most d j a l (no h) = absurd (omega (arith, pow-mono {i = suc d} {j = j} (omega arith)))
+
       go : Dec (power ≡ 0) → Step n m (digitStep F X n m)
-      go (yes z) = rw (eq-eqb power 0 z) (record { power = inl refl; under = omega arith })
+      go (yes z) = rw (eq-eqb power 0 z) (record { power = inl refl; under = omega arith; largest = λ j l. omega (arith, fits j l) })
       go (no z) =
           let d = digit-count 2 (omega arith) power (pos-of-ne-zero z) in
           let e : digitCount 2 power - 1 ≡ d .one-less = omega (arith, d .is) in
@@ -48,6 +56,7 @@ module _ (F X : ℕ) where
           (record {
             power = inr (d .one-less, refl);
             under = omega (arith, mul-le-mul-right (10 ^ (B + n)) (d .least), div-mul-le-self (2 ^ B * 10 ^ decade F X m) (10 ^ (B + n)));
+            largest = λ j l. most (d .one-less) j (rw (d .is) at (d .below)) (fits j l) (decLe j (d .one-less));
           })
 
   -- at most the size
@@ -219,6 +228,8 @@ module _ (F X : ℕ) where
         exact = λ n place m h p f. lands n place m h f .exact (λ z. absurd (omega arith));
         bits-kept = λ n place m h f. lands n place m h f .as-halfshave;
         half-step = half-step;
+        step-power = λ n m. step n m .power;
+        step-largest = λ n m. step n m .largest;
         step-below = λ n m. step n m .under;
         half-digit = λ n mark place w h. le-trans (mul-le-mul-right (10 ^ (B + n)) (half-step n mark place w h)) (step n (magnitude F X w) .under);
         exponent-stays = λ n mark place w h.

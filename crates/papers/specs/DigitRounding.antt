@@ -19,7 +19,9 @@ pub record DigitBounds (F X : ℕ) : Type 0 where
   pub bits-kept : (n place m : ℕ) → 1 ≤ n → m < infinity F X → AsHalfshave F X n place m
   -- Equation 2: every reading moves by at most q / 2
   pub half-step : (n mark place w : ℕ) → 1 ≤ n → 2 * moved F X (digits n) mark place w ≤ digitStep F X n (magnitude F X w)
-  -- Equations 5 to 7: q is at most 10 ^ (d - n)
+  -- Equations 5 to 7: q is the largest power of two that is at most 10 ^ (d - n), or 0 where that is below one least spacing
+  pub step-power : (n m : ℕ) → (digitStep F X n m ≡ 0) ⊎ ((j : ℕ) × (digitStep F X n m ≡ 2 ^ j))
+  pub step-largest : (n m j : ℕ) → 2 ^ j * 10 ^ (leastExp F X + n) ≤ 10 ^ decade F X m * 2 ^ leastExp F X → 2 ^ j ≤ digitStep F X n m
   pub step-below : (n m : ℕ) → digitStep F X n m * 10 ^ (leastExp F X + n) ≤ 10 ^ decade F X m * 2 ^ leastExp F X
   -- Equation 4: and so every reading moves by at most half a unit of its n-th digit
   pub half-digit : (n mark place w : ℕ) → 1 ≤ n
