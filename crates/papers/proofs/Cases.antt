@@ -3,7 +3,8 @@ use mathlib.Core.Path.{refl}
 use lib.Dec.{lit<}
 use Rattle.meaning.proofs.CasesRows.{afterAll}
 use Rattle.papers.specs.Moved.{moved}
-use Rattle.papers.specs.Cases.{Attained, Subnormal, Printed, DecimalBeyond, DigitsAgain, HalfshaveGroomed}
+use Rattle.papers.specs.Listings.{masked, maskedHalf, addedMasked}
+use Rattle.papers.specs.Cases.{Attained, Subnormal, Printed, DecimalBeyond, DigitsAgain, HalfshaveGroomed, ListingsBeyond}
 
 pub attained : Attained
 unfolding afterAll moved
@@ -41,3 +42,7 @@ digits-again = record { once-more = (refl, refl); two-cycle = (refl, refl) }
 pub halfshave-groomed : HalfshaveGroomed
 unfolding afterAll
 halfshave-groomed = record { zero-made = (refl, refl); mark-made = (refl, refl) }
+
+pub listings-beyond : ListingsBeyond
+unfolding masked maskedHalf addedMasked
+listings-beyond = record { A2-zero = refl; A4-largest = refl; A4-nan = refl }

@@ -5,13 +5,13 @@ use mathlib.Core.Logic.{_≢_, _⊎_, inl, inr, _↔_}
 use Prim.Native.Nat.{ℕ, _-_, _<_}
 use native.Mathlib.Decide.{ℕ-discrete}
 use Rattle.meaning.specs.Readings.{magnitude, sign, pattern, infinity}
-use Rattle.meaning.specs.Methods.{TailMethod, tail, groom, halfshave, tailChanged, newMagnitude, result, trimmed}
+use Rattle.meaning.specs.Methods.{TailMethod, tail, groom, halfshave, tailChanged, result, trimmed}
 use Rattle.meaning.proofs.Patterns.{pattern-back}
 use Rattle.meaning.proofs.Tails.{tail-changed-agree}
 use Rattle.meaning.proofs.OneReading.{trimmed-spared, trimmed-result}
 use Rattle.papers.specs.Halfshaving.{groomed, halfshaved, Halfshaving}
 use Rattle.papers.proofs.Apart.{trimmed-has, result-is, result-magnitude, result-below, result-sign}
-use Rattle.papers.proofs.TailValues.{groom-zero, halfshave-zero, halfshave-same, halfshave-kept}
+use Rattle.papers.proofs.TailValues.{tail-new, groom-zero, halfshave-zero, halfshave-same, halfshave-kept}
 
 module _ (F X k mark place w : ℕ) where
   abbrev G : ℕ → ℕ
@@ -27,18 +27,14 @@ module _ (F X k mark place w : ℕ) where
   abbrev h : ℕ
   h = result F X (tail halfshave k) place w
 
-  tail-new : (c : TailMethod) (m : ℕ) → newMagnitude F X (tail c k) place m ≡ tailChanged c place (F - k) m
-  unfolding newMagnitude
-  tail-new c m = refl
-
   -- a method that leaves the magnitude leaves the pattern
   unchanged : (c : TailMethod) (v : ℕ) → tailChanged c place (F - k) (magnitude F X v) ≡ magnitude F X v → result F X (tail c k) place v ≡ v
-  unchanged c v e = result-is F X (tail c k) tt place v ∙ rw (tail-new c (magnitude F X v), e) (pattern-back F X v)
+  unchanged c v e = result-is F X (tail c k) tt place v ∙ rw (tail-new F X c k place (magnitude F X v), e) (pattern-back F X v)
 
   -- w is present and finite, and grooming changes it to a pattern that isn't the mark
   module _ (p : w ≢ mark) (f : magnitude F X w < infinity F X) (s : g ≢ mark) (d : g ≢ w) where
     groomed-is : magnitude F X g ≡ tailChanged groom place (F - k) (magnitude F X w)
-    groomed-is = result-magnitude F X (tail groom k) tt place w f ∙ tail-new groom (magnitude F X w)
+    groomed-is = result-magnitude F X (tail groom k) tt place w f ∙ tail-new F X groom k place (magnitude F X w)
 
     below : magnitude F X g < infinity F X
     below = result-below F X (tail groom k) tt place w f
@@ -53,13 +49,13 @@ module _ (F X k mark place w : ℕ) where
         trimmed-result F X (tail halfshave k) mark place g s below (rw e s) ∙ e
 
     halfshaved-some : magnitude F X h ≢ 0
-    halfshaved-some = rw (result-magnitude F X (tail halfshave k) tt place w f, tail-new halfshave (magnitude F X w)) (halfshave-kept place (F - k) (magnitude F X w) original-some)
+    halfshaved-some = rw (result-magnitude F X (tail halfshave k) tt place w f, tail-new F X halfshave k place (magnitude F X w)) (halfshave-kept place (F - k) (magnitude F X w) original-some)
 
     -- any other has one halfshaved pattern with the original
     same-result : magnitude F X g ≢ 0 → result F X (tail halfshave k) place g ≡ h
     same-result z =
         result-is F X (tail halfshave k) tt place g
-        ∙ rw (result-sign F X (tail groom k) tt place w f, tail-new halfshave (magnitude F X g), same) (sym (result-is F X (tail halfshave k) tt place w ∙ rw (tail-new halfshave (magnitude F X w)) refl))
+        ∙ rw (result-sign F X (tail groom k) tt place w f, tail-new F X halfshave k place (magnitude F X g), same) (sym (result-is F X (tail halfshave k) tt place w ∙ rw (tail-new F X halfshave k place (magnitude F X w)) refl))
       where
         same : tailChanged halfshave place (F - k) (magnitude F X g) ≡ tailChanged halfshave place (F - k) (magnitude F X w)
         same =

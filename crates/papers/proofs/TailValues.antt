@@ -7,8 +7,12 @@ use native.Mathlib.Decide.{ℕ-discrete}
 use native.Mathlib.Omega.{arith}
 use borrow.Author.Tests.{eq-eqb, ne-eqb}
 use lib.Pow.{pow-pos}
-use Rattle.meaning.specs.Methods.{shave, set, groom, halfshave, shaved, tailSet, halfshaved, tailChanged}
+use Rattle.meaning.specs.Methods.{TailMethod, tail, newMagnitude, shave, set, groom, halfshave, shaved, tailSet, halfshaved, tailChanged}
 use Rattle.meaning.proofs.Tails.{Agree}
+
+pub tail-new : (F X : ℕ) (c : TailMethod) (k place m : ℕ) → newMagnitude F X (tail c k) place m ≡ tailChanged c place (F - k) m
+unfolding newMagnitude
+tail-new F X c k place m = refl
 
 pub shave-is : (place t m : ℕ) → tailChanged shave place t m ≡ m / 2 ^ t * 2 ^ t
 unfolding tailChanged shaved

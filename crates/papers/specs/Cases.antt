@@ -6,6 +6,7 @@ use Prim.Native.Nat.{ℕ, _+_, _*_, _^_, _<_}
 use Rattle.meaning.specs.Readings.{magnitude, position, distance}
 use Rattle.meaning.specs.Methods.{Method, tail, shave, set, groom, halfshave, round, absolute, digits, decade, digitStep, clips, trimmed}
 use Rattle.papers.specs.Moved.{moved, sizeOf, spacingOf, unitOf}
+use Rattle.papers.specs.Listings.{maskedHalf, addedMasked}
 use Rattle.papers.specs.LayerBounds.{layer, meaningAt}
 
 -- by how many least spacings a call moves a single at a place; the size, the spacing and the unit there
@@ -86,3 +87,9 @@ pub record HalfshaveGroomed : Type 0 where
   pub mark-made :
       (trimmed 23 8 (tail halfshave 7) 0x40498000 0 (trimmed 23 8 (tail groom 7) 0x40498000 0 0x40490FDB) ≡ 0x40490000)
       × (trimmed 23 8 (tail halfshave 7) 0x40498000 0 0x40490FDB ≡ 0x40490FDB)
+
+-- 003, appendix A, at what it leaves out: A2 makes a tiny reading of zero, and A4 an infinity of the largest single and -0 of a NaN
+pub record ListingsBeyond : Type 0 where
+  pub A2-zero : maskedHalf 16 0x00000000 ≡ 0x00008000
+  pub A4-largest : addedMasked 16 0x7F7FFFFF ≡ 0x7F800000
+  pub A4-nan : addedMasked 16 0x7FFFFFFF ≡ 0x80000000

@@ -6,4 +6,5 @@ pub mod DigitRounding
 pub mod Repetition
 pub mod Halfshaving
 pub mod LayerBounds
+pub mod Listings
 pub mod Cases
