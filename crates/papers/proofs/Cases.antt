@@ -4,7 +4,7 @@ use lib.Dec.{lit<}
 use Rattle.meaning.proofs.CasesRows.{afterAll}
 use Rattle.papers.specs.Moved.{moved}
 use Rattle.papers.specs.Listings.{masked, maskedHalf, addedMasked}
-use Rattle.papers.specs.Cases.{Attained, Subnormal, Printed, DecimalBeyond, DigitsAgain, HalfshaveGroomed, ListingsBeyond}
+use Rattle.papers.specs.Cases.{Attained, Subnormal, Printed, DecimalBeyond, DigitsAgain, HalfshaveGroomed, ListingsBeyond, LayerTop}
 
 pub attained : Attained
 unfolding afterAll moved
@@ -46,3 +46,7 @@ halfshave-groomed = record { zero-made = (refl, refl); mark-made = (refl, refl) 
 pub listings-beyond : ListingsBeyond
 unfolding masked maskedHalf addedMasked
 listings-beyond = record { A2-zero = refl; A4-largest = refl; A4-nan = refl }
+
+pub layer-top : LayerTop
+unfolding afterAll
+layer-top = record { top-beyond = refl }

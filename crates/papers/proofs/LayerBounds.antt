@@ -1,5 +1,5 @@
 -- Packing's bounds: the exponent is the least that holds the span, so the one below doesn't; and a step of one least spacing rounds nothing.
-use mathlib.Core.Path.{_≡_, refl, ap}
+use mathlib.Core.Path.{_≡_, refl, ap, _∙_}
 use mathlib.Core.Bool.{true}
 use mathlib.Core.Logic.{_≢_}
 use mathlib.Core.List.{List}
@@ -9,10 +9,12 @@ use native.Mathlib.Decide.{decLe, ℕ-discrete}
 use native.Mathlib.Omega.{arith}
 use borrow.Author.Tests.{le-leb}
 use lib.ListN.{length, getD}
+use lib.Pow.{pow-pos}
 use Rattle.meaning.specs.Readings.{position, distance}
-use Rattle.meaning.specs.Layers.{Layer, holds, lastCode, span, code}
+use Rattle.meaning.specs.Layers.{Layer, holds, lastCode, span, code, codeMeaning}
 use Rattle.meaning.proofs.Patterns.{finite-below}
-use Rattle.meaning.proofs.Packing.{layer-least, layer-codes, singles-held}
+use Rattle.meaning.proofs.Nearest.{nearest-multiple}
+use Rattle.meaning.proofs.Packing.{code-present, layer-least, layer-codes, singles-held}
 use Rattle.papers.specs.LayerBounds.{layer, spanOf, meaningAt, AllFinite, LayerBounds}
 
 module _ (mark : ℕ) (ws : List ℕ) (fin : AllFinite mark ws) where
@@ -45,5 +47,26 @@ module _ (mark : ℕ) (ws : List ℕ) (fin : AllFinite mark ws) where
       go (yes e) = omega (arith, half-step i h p, ap (λ (x : ℕ). 2 ^ x) e)
       go (no e) = omega (arith, half-step i h p, step-small e)
 
+smallest-exact : (mark : ℕ) (ws : List ℕ) (i : ℕ) → getD ws i 0 ≢ mark → position 23 8 (getD ws i 0) ≡ position 23 8 (layer mark ws .reference)
+    → meaningAt mark ws i ≡ position 23 8 (getD ws i 0)
+unfolding codeMeaning
+smallest-exact mark ws i p e =
+    let l : Layer = layer mark ws in
+    let z : position 23 8 (getD ws i 0) - position 23 8 (l .reference) ≡ 0 * 2 ^ l .exponent = omega arith in
+    let c : code 23 8 16 mark l (getD ws i 0) ≡ 0 = code-present 23 8 16 mark l (getD ws i 0) p ∙ rw z (nearest-multiple 0 (2 ^ l .exponent) (pow-pos (l .exponent))) in
+    rw c (omega arith)
+
+none-below : (mark : ℕ) (ws : List ℕ) (i : ℕ) → position 23 8 (layer mark ws .reference) ≤ meaningAt mark ws i
+unfolding codeMeaning
+none-below mark ws i = omega arith
+
 pub layer-bounds : LayerBounds
-layer-bounds = record { half-step = half-step; step-small = step-small; exact-least = exact-least; within-span = within-span }
+layer-bounds =
+    record {
+      half-step = half-step;
+      step-small = step-small;
+      exact-least = exact-least;
+      within-span = within-span;
+      smallest-exact = smallest-exact;
+      none-below = none-below;
+    }

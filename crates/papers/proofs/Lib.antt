@@ -11,3 +11,4 @@ pub mod Halfshaving
 pub mod LayerBounds
 pub mod Listings
 pub mod Cases
+pub mod Papers

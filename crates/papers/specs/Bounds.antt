@@ -3,7 +3,7 @@ use mathlib.Core.Path.{_≡_}
 use mathlib.Core.Bool.{false}
 use Prim.Native.Nat.{ℕ, _+_, _*_, _^_, _≤_, _<_}
 use Rattle.meaning.specs.Readings.{magnitude}
-use Rattle.meaning.specs.Methods.{TailMethod, tail, halfshave, round, absolute, clips}
+use Rattle.meaning.specs.Methods.{TailMethod, tail, shave, set, halfshave, round, absolute, clips, trimmed}
 use Rattle.papers.specs.Moved.{moved, sizeOf, spacingOf, unitOf, Normal}
 
 pub record UnitBounds (F X : ℕ) : Type 0 where
@@ -17,6 +17,9 @@ pub record UnitBounds (F X : ℕ) : Type 0 where
   -- 003, section 5, and 001, section 2.3 (Decimal Rounding): within half of the least bit's value, 2 ^ p. True unless it clips; then it is less than 2 ^ p.
   pub absolute-moves : (q mark place w : ℕ) → clips F X (absolute q) (magnitude F X w) ≡ false → 2 * moved F X (absolute q) mark place w ≤ unitOf F X (absolute q) w
   pub absolute-always : (q mark place w : ℕ) → moved F X (absolute q) mark place w < unitOf F X (absolute q) w
+  -- 001, section 2.3, and 003, section 3: shave goes towards zero, and set away from it
+  pub shave-down : (k mark place w : ℕ) → sizeOf F X (trimmed F X (tail shave k) mark place w) ≤ sizeOf F X w
+  pub set-up : (k mark place w : ℕ) → sizeOf F X w ≤ sizeOf F X (trimmed F X (tail set k) mark place w)
 
 -- 003, Table 1: the largest error as a part of the reading, with k keep bits (one less than the table's mantissa bits): 2 ^ -k for shave, set and groom, and half of
 -- that for round and halfshave. True of normal readings; halfshave alone attains it. The table's percentages are roundings of these powers.

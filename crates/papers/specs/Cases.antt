@@ -93,3 +93,7 @@ pub record ListingsBeyond : Type 0 where
   pub A2-zero : maskedHalf 16 0x00000000 ≡ 0x00008000
   pub A4-largest : addedMasked 16 0x7F7FFFFF ≡ 0x7F800000
   pub A4-nan : addedMasked 16 0x7FFFFFFF ≡ 0x80000000
+
+-- The largest value of a layer may lie beyond it, by at most half a step: of 003's humidities, section 6, from 0 to 0.99999535, the larger is packed as 1.
+pub record LayerTop : Type 0 where
+  pub top-beyond : meaningAt 0x7CF00000 (0x00000000 ∷ 0x3F7FFFB2 ∷ []) 1 ≡ position 23 8 0x3F800000

@@ -17,7 +17,7 @@ pub record KeepBits : Type 0 where
   pub enough : (n : ℕ) → 1 ≤ n → n ≤ 15 → 2 * 10 ^ n ≤ 2 ^ keepBits n
   pub fewest : (n : ℕ) → 1 ≤ n → n ≤ 15 → 2 ^ (keepBits n - 1) < 2 * 10 ^ n
 
--- A distance is less than half of 10 ^ (d - n), the tolerance of n digits at the reading w: both sides times 2 ^ leastExp * 10 ^ (leastExp + n).
+-- A distance is less than half of 10 ^ (d - n), the tolerance of n digits at the reading w: both sides times 2 * 2 ^ leastExp * 10 ^ (leastExp + n).
 abbrev pub HalfDigit : ℕ → ℕ → ℕ → ℕ → ℕ → Type 0
 HalfDigit F X n w distance = 2 * distance * 10 ^ (leastExp F X + n) < 10 ^ decade F X (magnitude F X w) * 2 ^ leastExp F X
 

@@ -34,3 +34,7 @@ pub record LayerBounds : Type 0 where
   -- so every value is within the span / 65,534
   pub within-span : (mark : ℕ) (ws : List ℕ) → AllFinite mark ws → (i : ℕ) → i < length ws → getD ws i 0 ≢ mark
       → 65534 * distance (position 23 8 (getD ws i 0)) (meaningAt mark ws i) ≤ spanOf mark ws
+  -- 003, section 6, saw a smallest value of zero unpacked to one below it: here the smallest is exact, and nothing lies below it
+  pub smallest-exact : (mark : ℕ) (ws : List ℕ) (i : ℕ) → getD ws i 0 ≢ mark → position 23 8 (getD ws i 0) ≡ position 23 8 (layer mark ws .reference)
+      → meaningAt mark ws i ≡ position 23 8 (getD ws i 0)
+  pub none-below : (mark : ℕ) (ws : List ℕ) (i : ℕ) → position 23 8 (layer mark ws .reference) ≤ meaningAt mark ws i

@@ -8,3 +8,4 @@ pub mod Halfshaving
 pub mod LayerBounds
 pub mod Listings
 pub mod Cases
+pub mod Papers

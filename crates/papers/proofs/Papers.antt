@@ -1,0 +1,36 @@
+-- The whole.
+use Rattle.papers.specs.Papers.{Papers}
+use Rattle.papers.proofs.Bounds.{unit-bounds}
+use Rattle.papers.proofs.Relative.{relative-bounds}
+use Rattle.papers.proofs.Decimal.{keep-bits, decimal-bounds}
+use Rattle.papers.proofs.DigitRounding.{digit-bounds}
+use Rattle.papers.proofs.Repetition.{repetition}
+use Rattle.papers.proofs.Halfshaving.{halfshaving}
+use Rattle.papers.proofs.Listings.{listings}
+use Rattle.papers.proofs.LayerBounds.{layer-bounds}
+use Rattle.papers.proofs.Cases.{attained, subnormal, printed, decimal-beyond, digits-again, halfshave-groomed, listings-beyond, layer-top}
+
+pub papers : Papers
+papers =
+    record {
+      every-width = λ F X.
+          record {
+            unit-bounds = unit-bounds F X;
+            relative-bounds = relative-bounds F X;
+            decimal-bounds = decimal-bounds F X;
+            digit-bounds = digit-bounds F X;
+            repetition = repetition F X;
+            halfshaving = halfshaving F X;
+            listings = listings F X;
+          };
+      keep-bits = keep-bits;
+      layers = layer-bounds;
+      attained = attained;
+      subnormal = subnormal;
+      printed = printed;
+      decimal-beyond = decimal-beyond;
+      digits-again = digits-again;
+      halfshave-groomed = halfshave-groomed;
+      listings-beyond = listings-beyond;
+      layer-top = layer-top;
+    }

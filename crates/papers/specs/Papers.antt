@@ -1,0 +1,33 @@
+-- All claims, in the papers' order: for every width, and so for singles and doubles; then the layers of singles and the cases.
+use Prim.Native.Nat.{ℕ}
+use Rattle.papers.specs.Bounds.{UnitBounds, RelativeBounds}
+use Rattle.papers.specs.Decimal.{KeepBits, DecimalBounds}
+use Rattle.papers.specs.DigitRounding.{DigitBounds}
+use Rattle.papers.specs.Repetition.{Repetition}
+use Rattle.papers.specs.Halfshaving.{Halfshaving}
+use Rattle.papers.specs.Listings.{Listings}
+use Rattle.papers.specs.LayerBounds.{LayerBounds}
+use Rattle.papers.specs.Cases.{Attained, Subnormal, Printed, DecimalBeyond, DigitsAgain, HalfshaveGroomed, ListingsBeyond, LayerTop}
+
+pub record Claims (F X : ℕ) : Type 0 where
+  pub unit-bounds : UnitBounds F X
+  pub relative-bounds : RelativeBounds F X
+  pub decimal-bounds : DecimalBounds F X
+  pub digit-bounds : DigitBounds F X
+  pub repetition : Repetition F X
+  pub halfshaving : Halfshaving F X
+  pub listings : Listings F X
+
+pub record Papers : Type 0 where
+  pub every-width : (F X : ℕ) → Claims F X
+  pub keep-bits : KeepBits
+  pub layers : LayerBounds
+  -- bounds that are attained, and claims that fail as printed
+  pub attained : Attained
+  pub subnormal : Subnormal
+  pub printed : Printed
+  pub decimal-beyond : DecimalBeyond
+  pub digits-again : DigitsAgain
+  pub halfshave-groomed : HalfshaveGroomed
+  pub listings-beyond : ListingsBeyond
+  pub layer-top : LayerTop
