@@ -2,7 +2,7 @@
 use mathlib.Core.Path.{_≡_, refl, sym, ap, _∙_}
 use mathlib.Core.Logic.{_⊎_, inl, inr, _≢_}
 use Prim.Native.Nat.{ℕ, zero, suc, _+_, _-_, _*_, _/_, _%_, _^_, _≤_, _<_, zero-le}
-use native.Mathlib.Nat.{le-div-iff-mul-le, mul-le-mul-left, mul-le-mul-right, pow-suc, pow-le-pow-right, one-le-pow, le-trans, le-of-mul-le-mul-right, div-mul-le-self, div-eq-of-lt-le, pos-of-ne-zero, sub-le, sub-self, mul-lt-mul-of-pos-right, mod-lt, mul-div-cancel}
+use native.Mathlib.Nat.{le-refl, le-div-iff-mul-le, mul-le-mul-left, mul-le-mul-right, pow-suc, pow-le-pow-right, one-le-pow, le-trans, le-of-mul-le-mul-right, div-mul-le-self, div-eq-of-lt-le, pos-of-ne-zero, sub-le, sub-self, mul-lt-mul-of-pos-right, mod-lt, mul-div-cancel}
 use native.Mathlib.Decide.{decLe, decLt, ℕ-discrete}
 use native.Mathlib.Omega.{arith}
 use borrow.Author.Tests.{eq-eqb, ne-eqb, lt-ltb, le-ltb}
@@ -133,7 +133,7 @@ module _ (F X : ℕ) where
   unfolding newMagnitude
   stays n place m e d =
       record {
-        as-halfshave = record { keep = F; same = e ∙ sym (rw (sub-self F) (halfshave-none place m)); step = inl refl };
+        as-halfshave = record { keep = F; in-range = le-refl F; same = e ∙ sym (rw (sub-self F) (halfshave-none place m)); step = inl refl };
         exact = λ z. rw (e, d z) refl;
       }
 
@@ -146,7 +146,7 @@ module _ (F X : ℕ) where
   moves : (n place m u : ℕ) → suc u ≤ F → m ≢ 0 → m < infinity F X → digitStep F X n m ≡ 2 ^ suc u * spacing F m → Lands n place m
   unfolding unit newMagnitude
   moves n place m u h z f e =
-      record { as-halfshave = record { keep = F - suc u; same = rw i new; step = inr (rw i (sym e)) }; exact = λ z. rw new (sym mid) }
+      record { as-halfshave = record { keep = F - suc u; in-range = sub-le F (suc u); same = rw i new; step = inr (rw i (sym e)) }; exact = λ z. rw new (sym mid) }
     where
       i : F - (F - suc u) ≡ suc u
       i = omega arith

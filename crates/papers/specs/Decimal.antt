@@ -11,7 +11,7 @@ use Rattle.papers.specs.Moved.{moved, Normal}
 unfoldable pub keepBits : ℕ → ℕ
 keepBits n = (332 * n + 99) / 100 + 1
 
--- Of n = 1 to 15 digits they are the fewest k with 10 ^ n ≤ 2 ^ (k - 1).
+-- Of n = 1 to 15 digits they are the fewest k with 10 ^ n ≤ 2 ^ (k - 1). Singles have 23 bits to keep, so 6 digits, and doubles 52, so 15.
 pub record KeepBits : Type 0 where
   pub table : keepBits 1 ∷ keepBits 2 ∷ keepBits 3 ∷ keepBits 4 ∷ keepBits 5 ∷ keepBits 6 ∷ [] ≡ 5 ∷ 8 ∷ 11 ∷ 15 ∷ 18 ∷ 21 ∷ []
   pub enough : (n : ℕ) → 1 ≤ n → n ≤ 15 → 2 * 10 ^ n ≤ 2 ^ keepBits n

@@ -9,6 +9,7 @@ use Rattle.papers.specs.Moved.{moved}
 -- With k keep bits halfshave does what digits does to a magnitude: nothing with all of them, and else its unit is q.
 pub record AsHalfshave (F X n place m : ℕ) : Type 0 where
   pub keep : ℕ
+  pub in-range : keep ≤ F
   pub same : newMagnitude F X (digits n) place m ≡ newMagnitude F X (tail halfshave keep) place m
   pub step : (keep ≡ F) ⊎ (unit F (tail halfshave keep) m ≡ digitStep F X n m)
 

@@ -1,4 +1,5 @@
--- Claims of the papers, each stated of one reading and one call, or of one layer; docs/PAPERS.md is their index. 001 is Zender (2016), 003 is Kouznetsov (2021).
+-- Claims of the papers about one reading and one call, or about one layer, as statements about document 01's definitions; docs/PAPERS.md is their index. 000 is Silver and
+-- Zender (layer packing), 001 Zender (Bit Grooming), 002 Delaunay et al. (Digit Rounding), 003 Kouznetsov (precision trimming).
 pub mod Moved
 pub mod Bounds
 pub mod Decimal
