@@ -4,7 +4,7 @@ use lib.Dec.{lit<}
 use Rattle.meaning.proofs.CasesRows.{afterAll}
 use Rattle.papers.specs.Moved.{moved}
 use Rattle.papers.specs.Listings.{masked, maskedHalf, addedMasked}
-use Rattle.papers.specs.Cases.{Attained, Subnormal, Printed, DecimalBeyond, DigitsAgain, HalfshaveGroomed, ListingsBeyond, LayerTop}
+use Rattle.papers.specs.Cases.{Attained, Subnormal, Printed, DecimalBeyond, DigitsAgain, HalfshaveSharper, HalfshaveGroomed, ListingsBeyond, LayerTop}
 
 pub attained : Attained
 unfolding afterAll moved
@@ -38,6 +38,10 @@ decimal-beyond = record { subnormal-digit = lit< tt; hundreds = lit< tt }
 pub digits-again : DigitsAgain
 unfolding afterAll moved
 digits-again = record { once-more = (refl, refl); two-cycle = (refl, refl) }
+
+pub halfshave-sharper : HalfshaveSharper
+unfolding afterAll
+halfshave-sharper = record { one-sharper = (refl, refl) }
 
 pub halfshave-groomed : HalfshaveGroomed
 unfolding afterAll

@@ -4,11 +4,11 @@ use Rattle.papers.proofs.Bounds.{unit-bounds}
 use Rattle.papers.proofs.Relative.{relative-bounds}
 use Rattle.papers.proofs.Decimal.{keep-bits, decimal-bounds}
 use Rattle.papers.proofs.DigitRounding.{digit-bounds}
-use Rattle.papers.proofs.Repetition.{repetition}
+use Rattle.papers.proofs.Repetition.{repetition, rounders}
 use Rattle.papers.proofs.Halfshaving.{halfshaving}
 use Rattle.papers.proofs.Listings.{listings}
 use Rattle.papers.proofs.LayerBounds.{layer-bounds}
-use Rattle.papers.proofs.Cases.{attained, subnormal, printed, decimal-beyond, digits-again, halfshave-groomed, listings-beyond, layer-top}
+use Rattle.papers.proofs.Cases.{attained, subnormal, printed, decimal-beyond, digits-again, halfshave-sharper, halfshave-groomed, listings-beyond, layer-top}
 
 pub papers : Papers
 papers =
@@ -20,6 +20,7 @@ papers =
             decimal-bounds = decimal-bounds F X;
             digit-bounds = digit-bounds F X;
             repetition = repetition F X;
+            rounder = rounders F X;
             halfshaving = halfshaving F X;
             listings = listings F X;
           };
@@ -30,6 +31,7 @@ papers =
       printed = printed;
       decimal-beyond = decimal-beyond;
       digits-again = digits-again;
+      halfshave-sharper = halfshave-sharper;
       halfshave-groomed = halfshave-groomed;
       listings-beyond = listings-beyond;
       layer-top = layer-top;

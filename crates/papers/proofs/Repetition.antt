@@ -1,49 +1,79 @@
--- A method whose result on a finite magnitude is its own result leaves what it left: a spared reading is spared again.
+-- Two calls of one method. One whose result on a finite magnitude is its own result leaves what it left: a spared reading is spared again.
 use mathlib.Core.Path.{_≡_, refl, sym, ap, ap₂, _∙_}
 use mathlib.Core.Logic.{_≢_}
 use mathlib.Core.List.{List, [], _∷_}
-use Prim.Native.Nat.{ℕ, zero, suc, _-_, _*_, _/_, _%_, _^_, _≤_, _<_}
+use Prim.Native.Nat.{ℕ, zero, suc, _+_, _-_, _*_, _/_, _%_, _^_, _≤_, _<_}
+use native.Mathlib.Nat.{mul-assoc, mul-div-cancel, le-refl}
 use native.Mathlib.Decide.{decLe, decLt, ℕ-discrete}
 use native.Mathlib.Omega.{arith}
-use lib.Pow.{pow-pos}
+use lib.Pow.{pow-pos, high, ones-lt, suc-ones}
 use Rattle.meaning.specs.Readings.{size, sign, magnitude, infinity, largest}
 use Rattle.meaning.specs.Methods.{Method, TailMethod, shave, set, groom, halfshave, tail, round, absolute, digits, nearest, shaved, rounded, multiple, tailChanged, absoluteSize, newMagnitude, result, trimmed, placeAfter, trimFrom}
+use Rattle.meaning.proofs.Powers.{pow-split}
 use Rattle.meaning.proofs.Sizes.{size-le}
 use Rattle.meaning.proofs.Patterns.{magnitudeOf-size}
 use Rattle.meaning.proofs.Nearest.{nearest-multiple}
-use Rattle.meaning.proofs.Tails.{tail-changed-agree}
+use Rattle.meaning.proofs.Tails.{Agree, agree-up, tail-changed-agree}
 use Rattle.meaning.proofs.Rounding.{cap, round-below, absolute-below, round-within, round-clipped, absolute-within, absolute-clipped}
 use Rattle.meaning.proofs.Absolute.{absolute-exact}
 use Rattle.meaning.proofs.Accepted.{Ready}
 use Rattle.meaning.proofs.OneReading.{trimmed-result}
-use Rattle.papers.specs.Repetition.{Repetition}
+use Rattle.papers.specs.Repetition.{Repetition, Rounder}
 use Rattle.papers.proofs.Apart.{trimmed-has, result-is, result-magnitude, result-below, result-sign}
-use Rattle.papers.proofs.TailValues.{shave-same, set-same, set-kept, halfshave-same, halfshave-kept, set-zero, groom-even, groom-odd, halfshave-zero}
+use Rattle.papers.proofs.TailValues.{shave-is, set-some, shave-same, set-same, set-kept, halfshave-same, halfshave-kept, set-zero, groom-even, groom-odd, halfshave-zero}
 
--- methods 0 to 3: the second result has the same S
-shave-again : (place t m : ℕ) → tailChanged shave place t (tailChanged shave place t m) ≡ tailChanged shave place t m
-shave-again place t m = shave-same place t (tailChanged shave place t m) m (tail-changed-agree shave place t m)
+-- ---- methods 0 to 3
 
-set-again : (place t m : ℕ) → tailChanged set place t (tailChanged set place t m) ≡ tailChanged set place t m
-set-again place t m = go (ℕ-discrete m 0)
+-- a longer tail after a shorter one: both agree above the longer
+tail-rounder : (c : TailMethod) (place t u m : ℕ) → t ≤ u → tailChanged c place u (tailChanged c place t m) ≡ tailChanged c place u m
+tail-rounder c place t u m h = go c (agree-up (tailChanged c place t m) m t u h (tail-changed-agree c place t m)) (ℕ-discrete m 0) (ℕ-discrete (place % 2) 0)
   where
-    go : Dec (m ≡ 0) → tailChanged set place t (tailChanged set place t m) ≡ tailChanged set place t m
-    go (yes z) = rw (z, set-zero place t) (set-zero place t)
-    go (no z) = set-same place t (tailChanged set place t m) m (set-kept place t m z) z (tail-changed-agree set place t m)
+    down : Agree u (tailChanged shave place t m) m → tailChanged shave place u (tailChanged shave place t m) ≡ tailChanged shave place u m
+    down e = shave-same place u (tailChanged shave place t m) m e
 
-tail-again : (c : TailMethod) (place t m : ℕ) → tailChanged c place t (tailChanged c place t m) ≡ tailChanged c place t m
-tail-again shave place t m = shave-again place t m
-tail-again set place t m = set-again place t m
-tail-again groom place t m = go (ℕ-discrete (place % 2) 0)
+    up : Agree u (tailChanged set place t m) m → Dec (m ≡ 0) → tailChanged set place u (tailChanged set place t m) ≡ tailChanged set place u m
+    up e (yes z) = rw (z, set-zero place t) refl
+    up e (no z) = set-same place u (tailChanged set place t m) m (set-kept place t m z) z e
+
+    go : (c : TailMethod) → Agree u (tailChanged c place t m) m → Dec (m ≡ 0) → Dec (place % 2 ≡ 0) → tailChanged c place u (tailChanged c place t m) ≡ tailChanged c place u m
+    go shave e z p = down e
+    go set e z p = up e z
+    go groom e z (yes p) = rw (groom-even place t m p, groom-even place u (tailChanged shave place t m) p, groom-even place u m p) (down (rw (groom-even place t m p) at e))
+    go groom e z (no p) = rw (groom-odd place t m p, groom-odd place u (tailChanged set place t m) p, groom-odd place u m p) (up (rw (groom-odd place t m p) at e) z)
+    go halfshave e (yes z) p = rw (z, halfshave-zero place t) refl
+    go halfshave e (no z) p = halfshave-same place u (tailChanged halfshave place t m) m (halfshave-kept place t m z) z e
+
+-- a shorter tail after a longer one: it is of zeros or of ones already
+shave-finer : (place t u m : ℕ) → t ≤ u → tailChanged shave place t (tailChanged shave place u m) ≡ tailChanged shave place u m
+shave-finer place t u m h =
+    let e : m / 2 ^ u * 2 ^ u ≡ m / 2 ^ u * 2 ^ (u - t) * 2 ^ t = ap (λ (x : ℕ). m / 2 ^ u * x) (pow-split u t h) ∙ sym (mul-assoc (m / 2 ^ u) (2 ^ (u - t)) (2 ^ t)) in
+    rw (shave-is place u m, shave-is place t (m / 2 ^ u * 2 ^ u), e, mul-div-cancel (m / 2 ^ u * 2 ^ (u - t)) (pow-pos t)) refl
+
+set-finer : (place t u m : ℕ) → t ≤ u → tailChanged set place t (tailChanged set place u m) ≡ tailChanged set place u m
+set-finer place t u m h = go (ℕ-discrete m 0)
   where
-    go : Dec (place % 2 ≡ 0) → tailChanged groom place t (tailChanged groom place t m) ≡ tailChanged groom place t m
-    go (yes z) = rw (groom-even place t m z, groom-even place t (tailChanged shave place t m) z) (shave-again place t m)
-    go (no z) = rw (groom-odd place t m z, groom-odd place t (tailChanged set place t m) z) (set-again place t m)
-tail-again halfshave place t m = go (ℕ-discrete m 0)
+    a : ℕ
+    a = m / 2 ^ u * 2 ^ (u - t) + (2 ^ (u - t) - 1)
+
+    is : m / 2 ^ u * 2 ^ u + (2 ^ u - 1) ≡ a * 2 ^ t + (2 ^ t - 1)
+    is =
+        omega (arith, pow-split u t h, ap (λ (x : ℕ). m / 2 ^ u * x) (pow-split u t h), ap (λ (x : ℕ). x * 2 ^ t) (suc-ones (u - t)), pow-pos t)
+
+    go : Dec (m ≡ 0) → tailChanged set place t (tailChanged set place u m) ≡ tailChanged set place u m
+    go (yes z) = rw (z, set-zero place u) (set-zero place t)
+    go (no z) =
+        let x : tailChanged set place u m ≡ a * 2 ^ t + (2 ^ t - 1) = set-some place u m z ∙ is in
+        set-some place t (tailChanged set place u m) (set-kept place u m z) ∙ rw (x, high a t (ones-lt t)) refl
+
+tail-finer : (c : TailMethod) → c ≢ halfshave → (place t u m : ℕ) → t ≤ u → tailChanged c place t (tailChanged c place u m) ≡ tailChanged c place u m
+tail-finer shave n place t u m h = shave-finer place t u m h
+tail-finer set n place t u m h = set-finer place t u m h
+tail-finer groom n place t u m h = go (ℕ-discrete (place % 2) 0)
   where
-    go : Dec (m ≡ 0) → tailChanged halfshave place t (tailChanged halfshave place t m) ≡ tailChanged halfshave place t m
-    go (yes z) = rw (z, halfshave-zero place t) (halfshave-zero place t)
-    go (no z) = halfshave-same place t (tailChanged halfshave place t m) m (halfshave-kept place t m z) z (tail-changed-agree halfshave place t m)
+    go : Dec (place % 2 ≡ 0) → tailChanged groom place t (tailChanged groom place u m) ≡ tailChanged groom place u m
+    go (yes z) = rw (groom-even place u m z, groom-even place t (tailChanged shave place u m) z) (shave-finer place t u m h)
+    go (no z) = rw (groom-odd place u m z, groom-odd place t (tailChanged set place u m) z) (set-finer place t u m h)
+tail-finer halfshave n place t u m h = absurd (n refl)
 
 module _ (F X : ℕ) where
   -- method 4: both neighbours are their own nearest
@@ -59,11 +89,13 @@ module _ (F X : ℕ) where
       go (yes f) = (nearest m (2 ^ (F - k)), round-within F X k place m f)
       go (no f) = (m / 2 ^ (F - k), round-clipped F X k place m (omega arith))
 
-  round-again : (k place m : ℕ) → m < infinity F X → newMagnitude F X (round k) place (newMagnitude F X (round k) place m) ≡ newMagnitude F X (round k) place m
-  round-again k place m f =
+  round-finer : (k j place m : ℕ) → k ≤ j → m < infinity F X → newMagnitude F X (round j) place (newMagnitude F X (round k) place m) ≡ newMagnitude F X (round k) place m
+  round-finer k j place m h f =
       let d = round-grid k place m in
-      let g : rounded (F - k) (newMagnitude F X (round k) place m) ≡ newMagnitude F X (round k) place m = rw (d .1) (grid-again (F - k) (d .0)) in
-      round-within F X k place (newMagnitude F X (round k) place m) (rw g (round-below F X k place m f)) ∙ g
+      let e : newMagnitude F X (round k) place m ≡ d .0 * 2 ^ (F - k - (F - j)) * 2 ^ (F - j) =
+      d .1 ∙ ap (λ (x : ℕ). d .0 * x) (pow-split (F - k) (F - j) (omega arith)) ∙ sym (mul-assoc (d .0) (2 ^ (F - k - (F - j))) (2 ^ (F - j))) in
+      let g : rounded (F - j) (newMagnitude F X (round k) place m) ≡ newMagnitude F X (round k) place m = rw e (grid-again (F - j) (d .0 * 2 ^ (F - k - (F - j)))) in
+      round-within F X j place (newMagnitude F X (round k) place m) (rw g (round-below F X k place m f)) ∙ g
 
   -- method 5: the new size is its own nearest multiple
   absolute-grid : (q m : ℕ) → (j : ℕ) × (absoluteSize F X q m ≡ j * 2 ^ q)
@@ -83,20 +115,32 @@ module _ (F X : ℕ) where
   absolute-still q place v f e =
       rw (absolute-within F X q v (rw e (size-le F {m = v} {n = largest F X} (omega arith))), e) (magnitudeOf-size F X v f)
 
-  absolute-again : (q place m : ℕ) → m < infinity F X → newMagnitude F X (absolute q) place (newMagnitude F X (absolute q) place m) ≡ newMagnitude F X (absolute q) place m
-  absolute-again q place m f =
-      let d = absolute-grid q m in
-      let v : ℕ = newMagnitude F X (absolute q) place m in
-      absolute-still q place v (absolute-below F X q place m f) (multiple-again q v (d .0) (absolute-exact F X q place m f ∙ d .1))
+  absolute-finer : (p q place m : ℕ) → q ≤ p → m < infinity F X → newMagnitude F X (absolute q) place (newMagnitude F X (absolute p) place m) ≡ newMagnitude F X (absolute p) place m
+  absolute-finer p q place m h f =
+      let d = absolute-grid p m in
+      let v : ℕ = newMagnitude F X (absolute p) place m in
+      absolute-still q place v (absolute-below F X p place m f)
+      (multiple-again q v (d .0 * 2 ^ (p - q)) (absolute-exact F X p place m f ∙ d .1 ∙ ap (λ (x : ℕ). d .0 * x) (pow-split p q h) ∙ sym (mul-assoc (d .0) (2 ^ (p - q)) (2 ^ q))))
 
-  tail-new-again : (c : TailMethod) (k place m : ℕ) → newMagnitude F X (tail c k) place (newMagnitude F X (tail c k) place m) ≡ newMagnitude F X (tail c k) place m
+  -- ---- the same of settings
+
+  rounder : (c : TailMethod) (k j place m : ℕ) → k ≤ j → newMagnitude F X (tail c k) place (newMagnitude F X (tail c j) place m) ≡ newMagnitude F X (tail c k) place m
   unfolding newMagnitude
-  tail-new-again c k place m = tail-again c place (F - k) m
+  rounder c k j place m h = tail-rounder c place (F - j) (F - k) m (omega arith)
+
+  no-sharper : (c : TailMethod) → c ≢ halfshave → (k j place m : ℕ) → k ≤ j → newMagnitude F X (tail c j) place (newMagnitude F X (tail c k) place m) ≡ newMagnitude F X (tail c k) place m
+  unfolding newMagnitude
+  no-sharper c n k j place m h = tail-finer c n place (F - j) (F - k) m (omega arith)
+
+  pub rounders : Rounder F X
+  rounders = record { tail-rounder = rounder; tail-no-sharper = no-sharper; round-no-sharper = round-finer; absolute-no-sharper = absolute-finer }
+
+  -- ---- a second call with the same setting
 
   again : (x : Method) → ((n : ℕ) → x ≢ digits n) → (place m : ℕ) → m < infinity F X → newMagnitude F X x place (newMagnitude F X x place m) ≡ newMagnitude F X x place m
-  again (tail c k) h place m f = tail-new-again c k place m
-  again (round k) h place m f = round-again k place m f
-  again (absolute q) h place m f = absolute-again q place m f
+  again (tail c k) h place m f = rounder c k k place m (le-refl k)
+  again (round k) h place m f = round-finer k k place m (le-refl k) f
+  again (absolute q) h place m f = absolute-finer q q place m (le-refl q) f
   again (digits n) h place m f = absurd (h n refl)
 
   ready : (x : Method) → ((n : ℕ) → x ≢ digits n) → Ready x

@@ -79,6 +79,10 @@ pub record DigitsAgain : Type 0 where
   -- 100 to one digit is 96, and 96 to one digit is 100
   pub two-cycle : (left (digits 1) 0x42C80000 ≡ 0x42C00000) × (left (digits 1) 0x42C00000 ≡ 0x42C80000)
 
+-- 001, section 4.1, doesn't hold of halfshave, which it doesn't name: 1 halfshaved with 7 keep bits changes again with 8.
+pub record HalfshaveSharper : Type 0 where
+  pub one-sharper : (left (tail halfshave 7) 0x3F800000 ≡ 0x3F808000) × (left (tail halfshave 8) 0x3F808000 ≡ 0x3F80C000)
+
 -- 003, section 3: halfshaving what groom left is not halfshaving the original, with 7 keep bits at place 0
 pub record HalfshaveGroomed : Type 0 where
   -- where grooming made zero of 00000001, which halfshave leaves

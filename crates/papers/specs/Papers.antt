@@ -3,11 +3,11 @@ use Prim.Native.Nat.{ℕ}
 use Rattle.papers.specs.Bounds.{UnitBounds, RelativeBounds}
 use Rattle.papers.specs.Decimal.{KeepBits, DecimalBounds}
 use Rattle.papers.specs.DigitRounding.{DigitBounds}
-use Rattle.papers.specs.Repetition.{Repetition}
+use Rattle.papers.specs.Repetition.{Repetition, Rounder}
 use Rattle.papers.specs.Halfshaving.{Halfshaving}
 use Rattle.papers.specs.Listings.{Listings}
 use Rattle.papers.specs.LayerBounds.{LayerBounds}
-use Rattle.papers.specs.Cases.{Attained, Subnormal, Printed, DecimalBeyond, DigitsAgain, HalfshaveGroomed, ListingsBeyond, LayerTop}
+use Rattle.papers.specs.Cases.{Attained, Subnormal, Printed, DecimalBeyond, DigitsAgain, HalfshaveSharper, HalfshaveGroomed, ListingsBeyond, LayerTop}
 
 pub record Claims (F X : ℕ) : Type 0 where
   pub unit-bounds : UnitBounds F X
@@ -15,6 +15,7 @@ pub record Claims (F X : ℕ) : Type 0 where
   pub decimal-bounds : DecimalBounds F X
   pub digit-bounds : DigitBounds F X
   pub repetition : Repetition F X
+  pub rounder : Rounder F X
   pub halfshaving : Halfshaving F X
   pub listings : Listings F X
 
@@ -28,6 +29,7 @@ pub record Papers : Type 0 where
   pub printed : Printed
   pub decimal-beyond : DecimalBeyond
   pub digits-again : DigitsAgain
+  pub halfshave-sharper : HalfshaveSharper
   pub halfshave-groomed : HalfshaveGroomed
   pub listings-beyond : ListingsBeyond
   pub layer-top : LayerTop

@@ -3,8 +3,9 @@
 use mathlib.Core.Path.{_≡_}
 use mathlib.Core.Logic.{_≢_}
 use mathlib.Core.List.{List}
-use Prim.Native.Nat.{ℕ}
-use Rattle.meaning.specs.Methods.{Method, digits, trimmed, trimFrom}
+use Prim.Native.Nat.{ℕ, _≤_, _<_}
+use Rattle.meaning.specs.Readings.{infinity}
+use Rattle.meaning.specs.Methods.{Method, TailMethod, tail, halfshave, round, absolute, digits, newMagnitude, trimmed, trimFrom}
 
 pub record Repetition (F X : ℕ) : Type 0 where
   -- one reading
@@ -12,3 +13,15 @@ pub record Repetition (F X : ℕ) : Type 0 where
   -- an array, groom's places included
   pub array-stays : (x : Method) → ((n : ℕ) → x ≢ digits n) → (mark place : ℕ) (ws : List ℕ)
       → trimFrom F X x mark place (trimFrom F X x mark place ws) ≡ trimFrom F X x mark place ws
+
+-- 001, section 4.1: trimmed data can be made rounder, not sharper. Of magnitudes, so of readings for which neither result is the mark.
+pub record Rounder (F X : ℕ) : Type 0 where
+  -- Fewer keep bits after more give what fewer alone give: methods 0 to 3. Round doesn't (P10).
+  pub tail-rounder : (c : TailMethod) (k j place m : ℕ) → k ≤ j → newMagnitude F X (tail c k) place (newMagnitude F X (tail c j) place m) ≡ newMagnitude F X (tail c k) place m
+  -- More keep bits after fewer change nothing: shave, set, groom and round, and absolute with a unit that is no larger. Halfshave does (`HalfshaveSharper` in Cases.antt).
+  pub tail-no-sharper : (c : TailMethod) → c ≢ halfshave → (k j place m : ℕ) → k ≤ j
+      → newMagnitude F X (tail c j) place (newMagnitude F X (tail c k) place m) ≡ newMagnitude F X (tail c k) place m
+  pub round-no-sharper : (k j place m : ℕ) → k ≤ j → m < infinity F X
+      → newMagnitude F X (round j) place (newMagnitude F X (round k) place m) ≡ newMagnitude F X (round k) place m
+  pub absolute-no-sharper : (p q place m : ℕ) → q ≤ p → m < infinity F X
+      → newMagnitude F X (absolute q) place (newMagnitude F X (absolute p) place m) ≡ newMagnitude F X (absolute p) place m
