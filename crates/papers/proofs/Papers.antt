@@ -8,6 +8,7 @@ use Rattle.papers.proofs.Repetition.{repetition, rounders}
 use Rattle.papers.proofs.Halfshaving.{halfshaving}
 use Rattle.papers.proofs.Listings.{listings}
 use Rattle.papers.proofs.LayerBounds.{layer-bounds}
+use Rattle.papers.proofs.Unbiased.{unbiased}
 use Rattle.papers.proofs.Cases.{attained, subnormal, printed, decimal-beyond, digits-again, halfshave-sharper, halfshave-groomed, listings-beyond, layer-top}
 
 pub papers : Papers
@@ -24,6 +25,7 @@ papers =
             halfshaving = halfshaving F X;
             listings = listings F X;
           };
+      unbiased = unbiased;
       keep-bits = keep-bits;
       layers = layer-bounds;
       attained = attained;

@@ -8,5 +8,6 @@ pub mod Repetition
 pub mod Halfshaving
 pub mod LayerBounds
 pub mod Listings
+pub mod Unbiased
 pub mod Cases
 pub mod Papers

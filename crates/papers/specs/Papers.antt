@@ -7,6 +7,7 @@ use Rattle.papers.specs.Repetition.{Repetition, Rounder}
 use Rattle.papers.specs.Halfshaving.{Halfshaving}
 use Rattle.papers.specs.Listings.{Listings}
 use Rattle.papers.specs.LayerBounds.{LayerBounds}
+use Rattle.papers.specs.Unbiased.{Unbiased}
 use Rattle.papers.specs.Cases.{Attained, Subnormal, Printed, DecimalBeyond, DigitsAgain, HalfshaveSharper, HalfshaveGroomed, ListingsBeyond, LayerTop}
 
 pub record Claims (F X : ℕ) : Type 0 where
@@ -21,6 +22,7 @@ pub record Claims (F X : ℕ) : Type 0 where
 
 pub record Papers : Type 0 where
   pub every-width : (F X : ℕ) → Claims F X
+  pub unbiased : Unbiased
   pub keep-bits : KeepBits
   pub layers : LayerBounds
   -- bounds that are attained, and claims that fail as printed
