@@ -4,7 +4,7 @@ use lib.Dec.{lit<}
 use Rattle.meaning.proofs.CasesRows.{afterAll}
 use Rattle.papers.specs.Moved.{moved}
 use Rattle.papers.specs.Listings.{masked, maskedHalf, addedMasked}
-use Rattle.papers.specs.Cases.{Attained, Subnormal, Printed, DecimalBeyond, DigitsAgain, HalfshaveSharper, HalfshaveGroomed, ListingsBeyond, LayerTop}
+use Rattle.papers.specs.Cases.{Attained, PiTables, Subnormal, Printed, DecimalBeyond, DigitsAgain, HalfshaveSharper, HalfshaveGroomed, ListingsBeyond, LayerTop}
 
 pub attained : Attained
 unfolding afterAll moved
@@ -22,6 +22,10 @@ attained =
       digits-half = refl;
       pack-half = refl;
     }
+
+pub pi-tables : PiTables
+unfolding afterAll
+pi-tables = record { table-1-of-001 = refl; table-2-of-001 = refl; table-1-of-002 = refl; table-2-of-002 = refl }
 
 pub subnormal : Subnormal
 unfolding afterAll moved

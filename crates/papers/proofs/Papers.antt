@@ -9,7 +9,7 @@ use Rattle.papers.proofs.Halfshaving.{halfshaving}
 use Rattle.papers.proofs.Listings.{listings}
 use Rattle.papers.proofs.LayerBounds.{layer-bounds}
 use Rattle.papers.proofs.Unbiased.{unbiased}
-use Rattle.papers.proofs.Cases.{attained, subnormal, printed, decimal-beyond, digits-again, halfshave-sharper, halfshave-groomed, listings-beyond, layer-top}
+use Rattle.papers.proofs.Cases.{attained, pi-tables, subnormal, printed, decimal-beyond, digits-again, halfshave-sharper, halfshave-groomed, listings-beyond, layer-top}
 
 pub papers : Papers
 papers =
@@ -28,6 +28,7 @@ papers =
       unbiased = unbiased;
       keep-bits = keep-bits;
       layers = layer-bounds;
+      pi-tables = pi-tables;
       attained = attained;
       subnormal = subnormal;
       printed = printed;

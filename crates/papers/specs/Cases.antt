@@ -1,8 +1,8 @@
 -- Single readings that attain a bound, and counterexamples to claims as they are printed. Each is computed. The mark is 7CF00000 where none is named.
 use mathlib.Core.Path.{_≡_}
 use mathlib.Core.Bool.{true}
-use mathlib.Core.List.{[], _∷_}
-use Prim.Native.Nat.{ℕ, _+_, _*_, _^_, _<_}
+use mathlib.Core.List.{[], _∷_, map}
+use Prim.Native.Nat.{ℕ, _+_, _-_, _*_, _^_, _<_}
 use Rattle.meaning.specs.Readings.{magnitude, position, distance}
 use Rattle.meaning.specs.Methods.{Method, tail, shave, set, groom, halfshave, round, absolute, digits, decade, digitStep, clips, trimmed}
 use Rattle.papers.specs.Moved.{moved, sizeOf, spacingOf, unitOf}
@@ -51,6 +51,21 @@ pub record Attained : Type 0 where
   -- in the layer 00000000, 0000FFFF (P12) the larger reading's code lies half a step from it
   pub pack-half :
       2 * distance (position 23 8 0x0000FFFF) (meaningAt 0x7CF00000 (0x00000000 ∷ 0x0000FFFF ∷ []) 1) ≡ 2 ^ layer 0x7CF00000 (0x00000000 ∷ 0x0000FFFF ∷ []) .exponent
+
+-- The papers' tables of pi, in the rows that a method and setting can give, by their bits: some printed decimals are not the value of their bits.
+pub record PiTables : Type 0 where
+  -- 001, Table 1: Decimal Rounding to 2 places (the scale 128), Bit Shaving and Bit Setting to 3 digits
+  pub table-1-of-001 : left (absolute (149 - 7)) 0x40490FDB ∷ left (tail shave 11) 0x40490FDB ∷ left (tail set 11) 0x40490FDB ∷ [] ≡ 0x40490000 ∷ 0x40490000 ∷ 0x40490FFF ∷ []
+  -- 001, Table 2: Bit Grooming to 8, 7 .. 1 digits. The row of 7 has 22 keep bits, where section 2.3's formula would keep all.
+  pub table-2-of-001 :
+      map (λ k. left (tail groom k) 0x40490FDB) (23 ∷ 22 ∷ 21 ∷ 18 ∷ 15 ∷ 11 ∷ 8 ∷ 5 ∷ [])
+      ≡ 0x40490FDB ∷ 0x40490FDA ∷ 0x40490FD8 ∷ 0x40490FC0 ∷ 0x40490F00 ∷ 0x40490000 ∷ 0x40490000 ∷ 0x40480000 ∷ []
+  -- 002, Table 1: 15 and 12 bits preserved
+  pub table-1-of-002 : map (λ k. left (tail shave k) 0x40490FDB) (15 ∷ 12 ∷ []) ≡ 0x40490F00 ∷ 0x40490800 ∷ []
+  -- 002, Table 2: Digit Rounding to 7 .. 1 digits
+  pub table-2-of-002 :
+      map (λ n. left (digits n) 0x40490FDB) (7 ∷ 6 ∷ 5 ∷ 4 ∷ 3 ∷ 2 ∷ 1 ∷ [])
+      ≡ 0x40490FDA ∷ 0x40490FD0 ∷ 0x40490F80 ∷ 0x40490800 ∷ 0x40494000 ∷ 0x404A0000 ∷ 0x40600000 ∷ []
 
 -- 003, Table 1, fails below the normal readings: with 7 keep bits shave takes the least subnormal to zero, and set takes it to
 -- 65,535 times its size; halfshave, and round next to a tie, move by far more than a 256th.
