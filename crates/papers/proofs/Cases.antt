@@ -37,7 +37,7 @@ printed = record { halfshave-more = lit< tt; set-more = lit< tt }
 
 pub decimal-beyond : DecimalBeyond
 unfolding afterAll moved
-decimal-beyond = record { subnormal-digit = lit< tt; hundreds = lit< tt }
+decimal-beyond = record { subnormal-digit = lit< tt; bit-less = lit< tt; hundreds = lit< tt }
 
 pub digits-again : DigitsAgain
 unfolding afterAll moved

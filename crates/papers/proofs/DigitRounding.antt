@@ -9,7 +9,7 @@ use borrow.Author.Tests.{eq-eqb, ne-eqb, lt-ltb, le-ltb}
 use lib.Pow.{pow-pos, pow-add, pow-mono}
 use Rattle.meaning.specs.Readings.{size, distance, spacing, spacingExp, exponentField, magnitude, infinity, magnitudeOf, leastExp}
 use Rattle.meaning.specs.Methods.{tail, halfshave, digits, unit, digitCount, decade, digitStep, digitSize, tailChanged, shaved, newMagnitude}
-use Rattle.meaning.proofs.Sizes.{Form, form, size-form, size-at}
+use Rattle.meaning.proofs.Sizes.{size-at}
 use Rattle.meaning.proofs.Patterns.{magnitudeOf-size}
 use Rattle.meaning.proofs.Powers.{pow-split, pow-le}
 use Rattle.meaning.proofs.Grid.{Grid, grid, shaved-is}
@@ -19,7 +19,7 @@ use Rattle.papers.specs.Moved.{moved}
 use Rattle.papers.specs.DigitRounding.{AsHalfshave, DigitBounds}
 use Rattle.papers.proofs.Apart.{distance-self, left-has, moved-has}
 use Rattle.papers.proofs.TailValues.{halfshave-none, halfshave-some}
-use Rattle.papers.proofs.Steps.{shaved-size, halfshave-step}
+use Rattle.papers.proofs.Steps.{size-below, shaved-size, halfshave-step}
 
 module _ (F X : ℕ) where
   abbrev B : ℕ
@@ -161,12 +161,8 @@ module _ (F X : ℕ) where
       new = digits-some n place m v z (agree-finite F X v m (suc u) h (tail-changed-agree halfshave place (suc u) m) f) mid
 
   size-under : (m : ℕ) → size F m < 2 ^ (suc F + spacingExp F m)
-  size-under m = go (form F m)
-    where
-      go : Form F m → size F m < 2 ^ (suc F + spacingExp F m)
-      go g =
-          let a : g .sig * 2 ^ spacingExp F m < 2 * 2 ^ F * 2 ^ spacingExp F m = mul-lt-mul-of-pos-right (g .below) (pow-pos (spacingExp F m)) in
-          rw (size-form F m g, pow-add 2 (suc F) (spacingExp F m), pow-suc 2 F) (omega arith)
+  unfolding spacing
+  size-under m = rw (pow-add 2 (suc F) (spacingExp F m), pow-suc 2 F) (omega (arith, size-below F m))
 
   lands : (n place m : ℕ) → 1 ≤ n → m < infinity F X → Lands n place m
   unfolding spacing

@@ -17,7 +17,7 @@ use Rattle.meaning.proofs.Rounding.{round-within, round-clipped}
 use Rattle.papers.specs.Moved.{moved}
 use Rattle.papers.specs.Bounds.{RelativeBounds}
 use Rattle.papers.proofs.Apart.{moved-has, distance-self}
-use Rattle.papers.proofs.Steps.{shaved-size, round-step}
+use Rattle.papers.proofs.Steps.{size-below, shaved-size, round-step}
 use Rattle.papers.proofs.Bounds.{unit-bounds}
 
 module _ (F : ℕ) where
@@ -170,4 +170,8 @@ module _ (F X : ℕ) where
         round-relative = λ k mark place w n.
             moved-has F X (round k) tt place w mark (λ d. d * 2 ^ (k + 1) < size F (magnitude F X w)) (omega (arith, some-size F (magnitude F X w) n))
             (λ f. round-relative k place (magnitude F X w) n f);
+        unit-part = λ c k w h n.
+            let e : 2 ^ (F - k) * spacing F (magnitude F X w) * 2 ^ k ≡ 2 ^ F * spacing F (magnitude F X w) = rw (pow-split F k h) (omega arith) in
+            let d : 2 ^ (F - k) * spacing F (magnitude F X w) * 2 ^ (k + 1) ≡ 2 ^ (F - k) * spacing F (magnitude F X w) * (2 ^ k * 2) = ap (λ (x : ℕ). 2 ^ (F - k) * spacing F (magnitude F X w) * x) (pow-add 2 k 1) in
+            (omega (arith, normal-size F (magnitude F X w) n), omega (arith, size-below F (magnitude F X w)));
       }

@@ -3,7 +3,7 @@ use mathlib.Core.Path.{_≡_, refl, sym, ap}
 use mathlib.Core.Logic.{_≢_}
 use mathlib.Core.Bool.{false}
 use Prim.Native.Nat.{ℕ, zero, suc, _+_, _-_, _*_, _/_, _%_, _^_, _≤_, _<_}
-use native.Mathlib.Nat.{div-add-mod', mod-lt, mul-le-mul-right, sub-le, pow-suc, mul-div-cancel, div-mul-le-self, add-mul, div-eq-of-lt-le}
+use native.Mathlib.Nat.{mul-lt-mul-of-pos-right, div-add-mod', mod-lt, mul-le-mul-right, sub-le, pow-suc, mul-div-cancel, div-mul-le-self, add-mul, div-eq-of-lt-le}
 use native.Mathlib.Decide.{decLe, decLt, ℕ-discrete}
 use native.Mathlib.Omega.{arith}
 use borrow.Author.Tests.{leb-false, ltb-false}
@@ -29,6 +29,11 @@ unfolding rounded shaved
 shaved-next t m e = rw e (omega arith)
 
 module _ (F : ℕ) where
+  -- a size is less than 2 ^ (F + 1) spacings
+  pub size-below : (m : ℕ) → size F m < 2 * 2 ^ F * spacing F m
+  unfolding spacing
+  size-below m = let f : Form F m = form F m in rw (size-form F m f) (mul-lt-mul-of-pos-right (f .below) (pow-pos (spacingExp F m)))
+
   agree-size : (m n r t : ℕ) → t ≤ F → Agree t m n → m ≡ n + r → size F m ≡ size F n + r * spacing F m
   unfolding spacing
   agree-size m n r t h e d = go (form F m) (form F n)

@@ -28,3 +28,5 @@ pub record RelativeBounds (F X : ℕ) : Type 0 where
   pub halfshave-relative : (k mark place w : ℕ) → Normal F X w → moved F X (tail halfshave k) mark place w * 2 ^ (k + 1) ≤ sizeOf F X w
   -- also where it clips, since only readings just below a power of two clip
   pub round-relative : (k mark place w : ℕ) → Normal F X w → moved F X (round k) mark place w * 2 ^ (k + 1) < sizeOf F X w
+  -- 003, section 3 and Table 1: the quantum as a part of the reading, more than 2 ^ -(k + 1) and at most 2 ^ -k of it. Section 3 prints the two bounds the other way round.
+  pub unit-part : (c : TailMethod) (k w : ℕ) → k ≤ F → Normal F X w → (unitOf F X (tail c k) w * 2 ^ k ≤ sizeOf F X w) × (sizeOf F X w < unitOf F X (tail c k) w * 2 ^ (k + 1))

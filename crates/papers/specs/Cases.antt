@@ -84,6 +84,8 @@ pub record Printed : Type 0 where
 pub record DecimalBeyond : Type 0 where
   -- one digit of the least subnormal, with the 5 keep bits of section 2.3: shaved to zero, it is off by more than half a unit of its only digit
   pub subnormal-digit : 10 ^ decade 23 8 0x00000001 * 2 ^ 149 < 2 * by (tail shave 5) 0 0x00000001 * 10 ^ (149 + 1)
+  -- one digit with 4 keep bits, one less than section 2.3's: 8703.999 is shaved to 8192, and half of a thousand is 500
+  pub bit-less : 500 * 2 ^ 149 < by (tail shave 4) 0 0x4607FFFF
   -- Decimal Rounding to hundreds with section 2.3's scale of 1/128, so with the unit 2 ^ 7: 64 goes to 0, and 50 is half of a hundred
   pub hundreds : 50 * 2 ^ 149 < by (absolute (149 + 7)) 0 0x42800000
 
