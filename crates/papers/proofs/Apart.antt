@@ -1,7 +1,7 @@
 -- From magnitudes to readings: what a method does to the size of every finite magnitude it does to every reading, and a reading that is left alone moves by nothing.
 use mathlib.Core.Path.{_≡_, refl, sym, subst}
 use mathlib.Core.Logic.{_≢_}
-use Prim.Native.Nat.{ℕ, _<_, _-_}
+use Prim.Native.Nat.{ℕ, _<_}
 use native.Mathlib.Decide.{decLt, ℕ-discrete}
 use native.Mathlib.Omega.{arith}
 use Rattle.meaning.specs.Readings.{size, sign, magnitude, pattern, infinity, position, distance}

@@ -9,7 +9,7 @@ use borrow.Author.Tests.{leb-true, ltb-true}
 use lib.Dec.{leb, ltb}
 use lib.Pow.{pow-pos, pow-add}
 use Rattle.meaning.specs.Readings.{size, magnitude, leastExp}
-use Rattle.meaning.specs.Methods.{TailMethod, tail, absolute, unit, decade}
+use Rattle.meaning.specs.Methods.{TailMethod, tail, unit, decade}
 use Rattle.meaning.proofs.Powers.{pow-split}
 use Rattle.meaning.proofs.Digits.{Decade, decade-rule}
 use Rattle.meaning.proofs.Accepted.{and-first, and-second}

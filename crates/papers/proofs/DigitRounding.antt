@@ -1,13 +1,13 @@
 -- 002's equations. The step is a power of two that is at most the size, so its multiples are the shaved magnitudes of the reading's binade, and their midpoints the halfshaved ones.
 use mathlib.Core.Path.{_≡_, refl, sym, ap, _∙_}
 use mathlib.Core.Logic.{_⊎_, inl, inr, _≢_}
-use Prim.Native.Nat.{ℕ, zero, suc, _+_, _-_, _*_, _/_, _%_, _^_, _≤_, _<_, zero-le}
+use Prim.Native.Nat.{ℕ, suc, _+_, _-_, _*_, _/_, _%_, _^_, _≤_, _<_, zero-le}
 use native.Mathlib.Nat.{le-refl, le-div-iff-mul-le, mul-le-mul-left, mul-le-mul-right, pow-suc, pow-le-pow-right, one-le-pow, le-trans, le-of-mul-le-mul-right, div-mul-le-self, div-eq-of-lt-le, pos-of-ne-zero, sub-le, sub-self, mul-lt-mul-of-pos-right, mod-lt, mul-div-cancel}
 use native.Mathlib.Decide.{decLe, decLt, ℕ-discrete}
 use native.Mathlib.Omega.{arith}
 use borrow.Author.Tests.{eq-eqb, ne-eqb, lt-ltb, le-ltb}
 use lib.Pow.{pow-pos, pow-add, pow-mono}
-use Rattle.meaning.specs.Readings.{size, distance, spacing, spacingExp, exponentField, magnitude, infinity, magnitudeOf, leastExp}
+use Rattle.meaning.specs.Readings.{size, distance, spacing, spacingExp, exponentField, magnitude, infinity, leastExp}
 use Rattle.meaning.specs.Methods.{tail, halfshave, digits, unit, digitCount, decade, digitStep, digitSize, tailChanged, shaved, newMagnitude}
 use Rattle.meaning.proofs.Sizes.{size-at}
 use Rattle.meaning.proofs.Patterns.{magnitudeOf-size}

@@ -4,12 +4,12 @@ use mathlib.Core.Path.{_≡_, refl, sym, ap, _∙_}
 use mathlib.Core.Logic.{_≢_, _⊎_, inl, inr, _↔_}
 use Prim.Native.Nat.{ℕ, _-_, _<_}
 use native.Mathlib.Decide.{ℕ-discrete}
-use Rattle.meaning.specs.Readings.{magnitude, sign, pattern, infinity}
+use Rattle.meaning.specs.Readings.{magnitude, infinity}
 use Rattle.meaning.specs.Methods.{TailMethod, tail, groom, halfshave, tailChanged, result, trimmed}
 use Rattle.meaning.proofs.Patterns.{pattern-back}
 use Rattle.meaning.proofs.Tails.{tail-changed-agree}
 use Rattle.meaning.proofs.OneReading.{trimmed-spared, trimmed-result}
-use Rattle.papers.specs.Halfshaving.{groomed, halfshaved, Halfshaving}
+use Rattle.papers.specs.Halfshaving.{Halfshaving}
 use Rattle.papers.proofs.Apart.{trimmed-has, result-is, result-magnitude, result-below, result-sign}
 use Rattle.papers.proofs.TailValues.{tail-new, groom-zero, halfshave-zero, halfshave-same, halfshave-kept}
 

@@ -11,7 +11,7 @@ use borrow.Author.Tests.{le-leb}
 use lib.ListN.{length, getD}
 use lib.Pow.{pow-pos}
 use Rattle.meaning.specs.Readings.{position, distance}
-use Rattle.meaning.specs.Layers.{Layer, holds, lastCode, span, code, codeMeaning}
+use Rattle.meaning.specs.Layers.{Layer, holds, lastCode, code, codeMeaning}
 use Rattle.meaning.proofs.Patterns.{finite-below}
 use Rattle.meaning.proofs.Nearest.{nearest-multiple}
 use Rattle.meaning.proofs.Packing.{code-present, layer-least, layer-codes, singles-held}

@@ -1,14 +1,13 @@
 -- 003's listings on patterns: a multiple of 2 ^ t, such as the sign, stays out of the mask, and twice one out of the lowest keep bit.
 use mathlib.Core.Path.{_≡_, sym, ap, _∙_}
 use mathlib.Core.Logic.{_≢_}
-use mathlib.Core.Bool.{false}
 use Prim.Native.Nat.{ℕ, zero, suc, _+_, _-_, _*_, _/_, _%_, _^_, _≤_, _<_}
 use native.Mathlib.Nat.{mul-add-div-right, mul-add-mod-self-right, sub-le, pow-suc, mul-assoc, add-mul, add-assoc, not-suc-le-zero}
 use native.Mathlib.Omega.{arith}
 use borrow.Author.Tests.{leb-false}
 use lib.Pow.{pow-pos}
 use Rattle.meaning.specs.Readings.{magnitude, sign, pattern, infinity}
-use Rattle.meaning.specs.Methods.{Method, tail, shave, halfshave, round, nearest, rounded, tailChanged, clips, newMagnitude, result}
+use Rattle.meaning.specs.Methods.{Method, tail, shave, halfshave, round, rounded, tailChanged, clips, newMagnitude, result}
 use Rattle.meaning.proofs.Powers.{pow-split}
 use Rattle.meaning.proofs.Patterns.{pattern-back}
 use Rattle.meaning.proofs.Nearest.{nearest-add}

@@ -7,7 +7,7 @@ use native.Mathlib.Decide.{decLe, decLt, ℕ-discrete}
 use native.Mathlib.Omega.{arith}
 use lib.Pow.{pow-pos, pow-add}
 use Rattle.meaning.specs.Readings.{size, spacing, spacingExp, infinity, magnitude, distance}
-use Rattle.meaning.specs.Methods.{tail, halfshave, round, nearest, shaved, rounded, unit, newMagnitude}
+use Rattle.meaning.specs.Methods.{tail, halfshave, round, shaved, rounded, unit, newMagnitude}
 use Rattle.meaning.proofs.Sizes.{Form, form, size-form, size-at}
 use Rattle.meaning.proofs.Powers.{pow-split}
 use Rattle.meaning.proofs.Nearest.{nearest-down, nearest-floor}

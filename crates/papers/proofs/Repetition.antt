@@ -2,12 +2,12 @@
 use mathlib.Core.Path.{_≡_, refl, sym, ap, ap₂, _∙_}
 use mathlib.Core.Logic.{_≢_}
 use mathlib.Core.List.{List, [], _∷_}
-use Prim.Native.Nat.{ℕ, zero, suc, _+_, _-_, _*_, _/_, _%_, _^_, _≤_, _<_}
+use Prim.Native.Nat.{ℕ, suc, _+_, _-_, _*_, _/_, _%_, _^_, _≤_, _<_}
 use native.Mathlib.Nat.{mul-assoc, mul-div-cancel, le-refl}
 use native.Mathlib.Decide.{decLe, decLt, ℕ-discrete}
 use native.Mathlib.Omega.{arith}
 use lib.Pow.{pow-pos, high, ones-lt, suc-ones}
-use Rattle.meaning.specs.Readings.{size, sign, magnitude, infinity, largest}
+use Rattle.meaning.specs.Readings.{size, magnitude, infinity, largest}
 use Rattle.meaning.specs.Methods.{Method, TailMethod, shave, set, groom, halfshave, tail, round, absolute, digits, nearest, shaved, rounded, multiple, tailChanged, absoluteSize, newMagnitude, result, trimmed, placeAfter, trimFrom}
 use Rattle.meaning.proofs.Powers.{pow-split}
 use Rattle.meaning.proofs.Sizes.{size-le}

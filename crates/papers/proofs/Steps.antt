@@ -7,10 +7,9 @@ use native.Mathlib.Nat.{mul-lt-mul-of-pos-right, div-add-mod', mod-lt, mul-le-mu
 use native.Mathlib.Decide.{decLe, decLt, ℕ-discrete}
 use native.Mathlib.Omega.{arith}
 use borrow.Author.Tests.{leb-false, ltb-false}
-use lib.Dec.{leb, ltb}
 use lib.Pow.{pow-pos, suc-ones}
 use Rattle.meaning.specs.Readings.{size, spacing, spacingExp, infinity, largest, distance}
-use Rattle.meaning.specs.Methods.{TailMethod, shave, halfshave, tail, round, absolute, nearest, shaved, tailChanged, rounded, multiple, clips, absoluteSize, newMagnitude}
+use Rattle.meaning.specs.Methods.{TailMethod, shave, halfshave, round, absolute, nearest, shaved, tailChanged, rounded, multiple, clips, absoluteSize, newMagnitude}
 use Rattle.meaning.proofs.Sizes.{Form, form, size-form, size-le}
 use Rattle.meaning.proofs.Nearest.{nearest-half, nearest-floor}
 use Rattle.meaning.proofs.Grid.{unit-apart}
@@ -34,6 +33,7 @@ module _ (F : ℕ) where
   unfolding spacing
   size-below m = let f : Form F m = form F m in rw (size-form F m f) (mul-lt-mul-of-pos-right (f .below) (pow-pos (spacingExp F m)))
 
+  -- what one has more than the other, in spacings
   agree-size : (m n r t : ℕ) → t ≤ F → Agree t m n → m ≡ n + r → size F m ≡ size F n + r * spacing F m
   unfolding spacing
   agree-size m n r t h e d = go (form F m) (form F n)
@@ -47,6 +47,7 @@ module _ (F : ℕ) where
           let a : f .sig ≡ g .sig + r = omega (arith, f .is) in
           rw (size-form F m f, size-form F n g, ← s, a) (add-mul (g .sig) r (2 ^ spacingExp F m))
 
+  -- patterns at most D apart
   within : (m n D t : ℕ) → t ≤ F → Agree t m n → m ≤ n + D → n ≤ m + D → distance (size F m) (size F n) ≤ D * spacing F m
   unfolding distance spacing
   within m n D t h e a b = go (decLe n m)
