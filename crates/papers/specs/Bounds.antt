@@ -11,10 +11,10 @@ pub record UnitBounds (F X : ℕ) : Type 0 where
   pub tail-moves : (c : TailMethod) (k mark place w : ℕ) → moved F X (tail c k) mark place w + spacingOf F X w ≤ unitOf F X (tail c k) w
   -- 003, section 3: at most half a quantum for halfshave
   pub halfshave-moves : (k mark place w : ℕ) → 2 * moved F X (tail halfshave k) mark place w ≤ unitOf F X (tail halfshave k) w
-  -- and for round. True unless it clips, which the paper leaves out; then it is a unit less one spacing, as for shave.
+  -- and for round. True unless it clips, which the paper leaves out; clipped or not, at most a unit less one spacing, as for shave.
   pub round-moves : (k mark place w : ℕ) → clips F X (round k) (magnitude F X w) ≡ false → 2 * moved F X (round k) mark place w ≤ unitOf F X (round k) w
   pub round-always : (k mark place w : ℕ) → moved F X (round k) mark place w + spacingOf F X w ≤ unitOf F X (round k) w
-  -- 003, section 5, and 001, section 2.3 (Decimal Rounding): within half of the least bit's value, 2 ^ p. True unless it clips; then it is less than 2 ^ p.
+  -- 003, section 5, and 001, section 2.3 (Decimal Rounding): within half of the least bit's value, 2 ^ p. True unless it clips; clipped or not, less than 2 ^ p.
   pub absolute-moves : (q mark place w : ℕ) → clips F X (absolute q) (magnitude F X w) ≡ false → 2 * moved F X (absolute q) mark place w ≤ unitOf F X (absolute q) w
   pub absolute-always : (q mark place w : ℕ) → moved F X (absolute q) mark place w < unitOf F X (absolute q) w
   -- 001, section 2.3, and 003, section 3: shave goes towards zero, and set away from it
