@@ -2,125 +2,15 @@
 //!
 //! The model knows nothing of the library. Where the machine's own floats can give the same answer exactly, they are asked too,
 //! so that a slip in the model doesn't pass for a slip in the library. Every run makes the same comparisons.
+mod model;
 mod nat;
-use nat::{goes_up, Nat};
+use model::{ends, left, tens, Form};
 use std::process::exit;
 
 extern "C" {
     fn megharutti_trim_single(reading: u32, method: u32, setting: i32, mark: u32, place: u64) -> u64;
     fn megharutti_trim_singles(readings: *mut u32, n: usize, method: u32, setting: i32, mark: u32, counts: *mut u64) -> u32;
     fn megharutti_trim_doubles(readings: *mut u64, n: usize, method: u32, setting: i32, mark: u64, counts: *mut u64) -> u32;
-}
-
-/// A float form with f fraction bits and e exponent bits. A size is a Nat that counts least spacings; the least spacing is 2^-deep.
-struct Form {
-    f: u32, e: u32, deep: i32, sign: u64, infinity: u64,
-    all: u64, // every bit of a pattern
-    tens: Vec<Nat>, // the least size that isn't below 10^x, from x = LOW on; sizes are whole, so the comparison is exact
-    lengths: Vec<i32>, // the bit length of 10^0, 10^1 ..
-}
-const LOW: i32 = -330; // below the decade of the least double
-
-impl Form {
-    fn new(f: u32, e: u32) -> Form {
-        let deep = (1 << (e - 1)) - 2 + f as i32;
-        let mut tens = vec![Nat::of(1).shl(deep as u32)];
-        (0..-LOW).for_each(|i| tens.push(tens[i as usize].over(10)));
-        tens.reverse();
-        (0..310).for_each(|_| tens.push(tens[tens.len() - 1].times(10)));
-        let mut ten = Nat::of(1);
-        let lengths = (0..360).map(|_| (ten.bits() as i32, ten = ten.times(10)).0).collect();
-        Form { f, e, deep, sign: 1 << (f + e), infinity: ((1 << e) - 1) << f, all: u64::MAX >> (63 - f - e), tens, lengths }
-    }
-    /// The settings that the method takes.
-    fn range(&self, method: u32) -> (i32, i32) {
-        let absolute = (-self.deep, (1 << (self.e - 1)) - 1);
-        if method < 5 { (0, self.f as i32) } else if method == 5 { absolute } else { (1, if self.f == 23 { 7 } else { 15 }) }
-    }
-    fn refusal(&self, method: u32, setting: i32) -> u32 {
-        let (least, most) = self.range(method);
-        if method > 6 { 1 } else if setting < least || setting > most { 2 } else { 0 }
-    }
-    /// The exponent of the spacing, counted from the least spacing.
-    fn spacing(&self, m: u64) -> u32 { ((m >> self.f) as u32).max(1) - 1 }
-    fn size(&self, m: u64) -> Nat {
-        let fraction = m % (1 << self.f);
-        Nat::of(if m >> self.f == 0 { fraction } else { (1 << self.f) + fraction }).shl(self.spacing(m))
-    }
-    fn magnitude(&self, size: &Nat) -> u64 {
-        let e = size.bits().saturating_sub(self.f);
-        let m = ((e as u64) << self.f) + size.shr(e.max(1) - 1).low() % (1 << self.f);
-        assert!(m < self.infinity && self.size(m) == *size, "the model made a size that isn't a reading's");
-        m
-    }
-    /// What the method makes of a reading that isn't the mark, before sparing, and whether it was clipped.
-    fn trim(&self, method: u32, setting: i32, reading: u64, odd: bool) -> (u64, bool) {
-        let m = reading % self.sign;
-        let (new, clipped) = match method {
-            _ if m >= self.infinity => (m, false),
-            0..=4 => self.keep(method, self.f - setting as u32, m, odd),
-            5 => self.absolute((setting + self.deep) as u32, m),
-            _ => (self.digits(setting, m), false),
-        };
-        (reading - m + new, clipped)
-    }
-    fn keep(&self, method: u32, t: u32, m: u64, odd: bool) -> (u64, bool) {
-        let unit = 1u64 << t;
-        let s = m / unit * unit;
-        match method {
-            0 => (s, false),
-            1 => (if m == 0 { m } else { s + (unit - 1) }, false),
-            2 => self.keep(odd as u32, t, m, odd),
-            3 => (if m == 0 || t == 0 { m } else { s + unit / 2 }, false),
-            _ if !goes_up((m - s).cmp(&(s + unit - m)), s & unit != 0) => (s, false),
-            _ => if s + unit < self.infinity { (s + unit, false) } else { (s, true) },
-        }
-    }
-    fn absolute(&self, unit: u32, m: u64) -> (u64, bool) {
-        let size = self.size(m);
-        let j = size.shr(unit);
-        let (below, above) = (j.shl(unit), j.add(&Nat::of(1)).shl(unit));
-        let up = goes_up(size.times(2).cmp(&below.add(&above)), j.low() % 2 == 1);
-        let largest = self.size(self.infinity - 1);
-        let clipped = up && above.cmp(&largest).is_gt();
-        (self.magnitude(&if clipped { largest.shr(unit).shl(unit) } else if up { above } else { below }), clipped)
-    }
-    /// The d with 10^(d-1) <= size < 10^d.
-    fn decade(&self, m: u64) -> i32 {
-        let size = self.size(m);
-        self.tens.partition_point(|ten| ten.cmp(&size).is_le()) as i32 + LOW
-    }
-    fn digits(&self, n: i32, m: u64) -> u64 {
-        if m == 0 { return m; }
-        let x = self.decade(m) - n;
-        // Below 10^0 no power of ten is a power of two, so 2^-length is the largest that isn't above 10^x.
-        let length = self.lengths[x.unsigned_abs() as usize];
-        let q = if x >= 0 { length - 1 } else { -length } + self.deep;
-        if q < self.spacing(m) as i32 + 1 { return m; }
-        let j = self.size(m).shr(q as u32);
-        self.magnitude(&j.times_add(2, &Nat::of(1)).shl(q as u32 - 1))
-    }
-    /// What the machine's floats say, where nothing but the wanted rounding can round.
-    fn machine(&self, method: u32, setting: i32, reading: u64) -> Option<u64> {
-        let power = |p: i32| f64::from_bits(if p < -1022 { 1 << (p + 1074) } else { ((p + 1023) as u64) << 52 });
-        let (double, most) = (f64::from_bits(reading), f32::MAX as f64);
-        match (method, self.f) {
-            _ if reading % self.sign >= self.infinity => None,
-            (5, 23) => {
-                let x = (f32::from_bits(reading as u32) as f64 / power(setting)).round_ties_even() * power(setting);
-                let largest = (most / power(setting)).floor() * power(setting);
-                Some((x.abs().min(largest).copysign(x) as f32).to_bits() as u64)
-            }
-            (5, _) => {
-                let quotient = double / power(setting);
-                let x = quotient.round_ties_even() * power(setting);
-                (x.is_finite() && (quotient.is_normal() || double == 0.0)).then_some(x.to_bits())
-            }
-            // A cast to single keeps 23 bits of a double that has a single's exponent, ties to even.
-            (4, 52) if setting == 23 && (f32::MIN_POSITIVE as f64..=most).contains(&double.abs()) => Some((double as f32 as f64).to_bits()),
-            _ => None,
-        }
-    }
 }
 
 struct Tally { compared: u64, lines: u32, seed: u64 }
@@ -169,10 +59,7 @@ fn array(t: &mut Tally, form: &Form, job: Job, before: &[u64], plain: &[(u64, bo
     let mut want = [UNTOLD, 0, 0, 0, 0, UNTOLD];
     for i in 0..n {
         let old = before[i];
-        let (new, clipped) = if refusal != 0 { (old, false) } else { plain[i] };
-        let (missing, spared) = (old == mark, old != mark && new == mark && refusal == 0);
-        let new = if missing || spared { old } else { new };
-        let kinds = [new != old, spared, clipped && !missing && !spared, missing];
+        let (new, kinds) = if refusal != 0 { (old, [false; 4]) } else { left(old, plain[i], mark) };
         (0..4).for_each(|k| want[k + 1] += kinds[k] as u64);
         t.same(lent[front + i], new, || job.at("array", i as u64, old));
     }
@@ -206,24 +93,6 @@ fn loader(t: &mut Tally, form: &Form, job: Job, before: &[u64], after: &[u64], m
     }
 }
 
-/// Ends, subnormals, infinities, NaNs and a few everyday readings, with both signs.
-fn ends(form: &Form) -> Vec<u64> {
-    let (one, top) = (1u64 << form.f, form.infinity);
-    let mut out = vec![0, 1, 2, 3, one / 2, one - 2, one - 1, one, one + 1, 2 * one, top - one, top - 2, top - 1];
-    out.extend([top, top + 1, top + one / 2, top + one / 2 + 1, top + one - 1, top / 2 - one / 2, top / 2]);
-    out.extend(match form.f {
-        23 => [0x40490FDB, 0x7CF00000, 0x7CF00001, 0x3FC00000, 0x3DCCCCCD],
-        _ => [std::f64::consts::PI, 9969209968386869046778552952102584320.0, 0.1, 1.5, 2.5].map(f64::to_bits),
-    });
-    out.iter().flat_map(|&m| [m, m + form.sign]).collect()
-}
-/// The readings nearest to the powers of ten, with their neighbours on both sides.
-fn tens(form: &Form) -> Vec<u64> {
-    let single = |x: i32| format!("1e{x}").parse::<f32>().unwrap().to_bits() as u64;
-    let double = |x: i32| format!("1e{x}").parse::<f64>().unwrap().to_bits();
-    let near: Vec<u64> = if form.f == 23 { (-45..39).map(single).collect() } else { (-324..309).map(double).collect() };
-    near.iter().flat_map(|&m| [m.saturating_sub(1), m, m + 1]).collect()
-}
 /// The magnitude with exponent field e and a fraction whose last bits lie at, or next to, what decides a rounding at bit `at`.
 fn edge(t: &mut Tally, form: &Form, e: u64, at: u32) -> u64 {
     let (unit, random) = (1u64 << at, t.random());
