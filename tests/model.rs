@@ -93,7 +93,8 @@ impl Form {
     /// The d with 10^(d-1) <= size < 10^d.
     pub fn decade(&self, m: u64) -> i32 {
         let size = self.size(m);
-        self.tens.partition_point(|ten| if self.is(Slip::DecadeBelow) { ten.cmp(&size).is_lt() } else { ten.cmp(&size).is_le() }) as i32 + LOW
+        let reached = |ten: &Nat| if self.is(Slip::DecadeBelow) { ten.cmp(&size).is_lt() } else { ten.cmp(&size).is_le() };
+        self.tens.partition_point(reached) as i32 + LOW
     }
     fn digits(&self, n: i32, m: u64) -> u64 {
         if m == 0 { return m; }
