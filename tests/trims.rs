@@ -1,7 +1,9 @@
 //! Compares the trims of the C interface with a model of document 01 in exact whole numbers, place by place and count by count.
 //!
 //! The model knows nothing of the library. Where the machine's own floats can give the same answer exactly, they are asked too,
-//! so that a slip in the model doesn't pass for a slip in the library. Every run makes the same comparisons.
+//! so that a slip in the model doesn't pass for a slip in the library. Every run makes the same comparisons. With --all it takes every
+//! single pattern instead, by two methods.
+mod every;
 mod model;
 mod nat;
 use model::{ends, left, tens, Form};
@@ -240,9 +242,13 @@ fn width(t: &mut Tally, form: &Form) {
 fn main() {
     let mut t = Tally { compared: 0, lines: 0, seed: 0x9E3779B97F4A7C15 };
     let (single, double) = (Form::new(23, 8), Form::new(52, 11));
-    marked_cases(&mut t, &single);
-    width(&mut t, &single);
-    width(&mut t, &double);
+    if std::env::args().any(|x| x == "--all") {
+        every::run(&mut t, &single);
+    } else {
+        marked_cases(&mut t, &single);
+        width(&mut t, &single);
+        width(&mut t, &double);
+    }
     if t.lines > 0 { exit(1); }
     println!("trims: {} comparisons, no difference", t.compared);
 }

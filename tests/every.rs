@@ -1,0 +1,137 @@
+//! The long run of the trims' test: every single pattern, by two methods, against the model.
+//!
+//! The exact model takes too long for so many patterns. A fast form of it, in machine words, stands in; it is itself compared with the
+//! exact one, on patterns strewn over all and on those around each place where its rule changes.
+use crate::model::{left, Form};
+use crate::{megharutti_trim_single, megharutti_trim_singles, Job, Tally};
+use std::time::Instant;
+
+const MARK: u32 = 0x7CF00000;
+const SIGN: u32 = 1 << 31;
+const INFINITY: u32 = 0x7F800000;
+const BLOCK: usize = 1 << 16;
+const JOBS: [Job; 2] = [Job { method: 4, setting: 7, mark: MARK as u64 }, Job { method: 6, setting: 3, mark: MARK as u64 }];
+
+/// The magnitudes from one on, up to the next stretch's, that the fast form treats alike.
+struct Stretch { from: u32, rule: Rule }
+#[derive(Clone, Copy)]
+enum Rule { Stays, Half(u32), Round(u32) } // with the number of tail bits
+
+/// The least magnitude at which digits counts a decade, or a later one.
+fn decade_begins(form: &Form, decade: i32) -> u32 {
+    let (mut low, mut high) = (1, INFINITY);
+    while low < high {
+        let middle = low + (high - low) / 2;
+        if form.decade(middle as u64) >= decade { high = middle } else { low = middle + 1 }
+    }
+    low
+}
+fn stretches(form: &Form, job: Job) -> Vec<Stretch> {
+    if job.method == 4 {
+        let rule = Rule::Round(23 - job.setting as u32);
+        return vec![Stretch { from: 0, rule }, Stretch { from: INFINITY, rule: Rule::Stays }];
+    }
+    // For digits a binade, or the part of it in one decade, has one q.
+    let mut starts: Vec<u32> = (1..255).map(|e| e << 23).chain((-45..40).map(|decade| decade_begins(form, decade))).chain([1]).collect();
+    starts.sort();
+    starts.dedup();
+    let rule = |from: u32| {
+        let decade = form.decade(from as u64);
+        let q = ((decade - job.setting) as f64 * std::f64::consts::LOG2_10).floor() as i32 + 149;
+        let tail = q - form.spacing(from as u64) as i32;
+        if tail < 1 { Rule::Stays } else { Rule::Half(tail as u32) }
+    };
+    let mut out = vec![Stretch { from: 0, rule: Rule::Stays }];
+    out.extend(starts.into_iter().filter(|&from| from < INFINITY).map(|from| Stretch { from, rule: rule(from) }));
+    out.push(Stretch { from: INFINITY, rule: Rule::Stays });
+    out
+}
+/// What a rule makes of a magnitude, and whether it clips.
+fn fast(rule: Rule, m: u32) -> (u32, bool) {
+    match rule {
+        Rule::Stays => (m, false),
+        Rule::Half(tail) => (m >> tail << tail | 1 << (tail - 1), false),
+        Rule::Round(tail) => {
+            let (odd, below) = (m >> tail & 1, m >> tail << tail);
+            let new = (m + (1 << (tail - 1)) - 1 + odd) >> tail << tail;
+            if new < INFINITY { (new, false) } else { (below, true) }
+        }
+    }
+}
+/// The rule of the stretch that a magnitude lies in.
+fn rule_at(stretches: &[Stretch], m: u32) -> Rule { stretches[stretches.partition_point(|x| x.from <= m) - 1].rule }
+
+/// The fast form beside the exact model. Answers how many patterns were compared.
+fn beside_exact(t: &mut Tally, form: &Form, job: Job, stretches: &[Stretch]) -> u64 {
+    let strewn = (0..1u64 << 32).step_by(1021);
+    let around = stretches.iter().flat_map(|x| (0..2001).map(|by| ((x.from + by).wrapping_sub(1000)) as u64));
+    let mut n = 0;
+    for old in strewn.chain(around) {
+        let (m, sign) = (old as u32 % SIGN, old as u32 & SIGN);
+        let (new, clipped) = fast(rule_at(stretches, m), m);
+        let exact = form.trim(job.method, job.setting, old, false);
+        t.same((new + sign) as u64, exact.0, || job.at("fast form of the model", 0, old));
+        t.same(clipped as u64, exact.1 as u64, || job.at("fast form of the model, clipping", 0, old));
+        n += 1;
+    }
+    n
+}
+/// What a block of patterns becomes, and its counts, by the fast form.
+fn block_after(stretches: &[Stretch], before: &[u32], after: &mut [u32]) -> [u64; 4] {
+    let mut counts = [0; 4];
+    let (sign, first, end) = (before[0] & SIGN, before[0] % SIGN, (before[0] % SIGN) as u64 + before.len() as u64);
+    let mut at = stretches.partition_point(|x| x.from <= first) - 1;
+    let mut from = first as u64;
+    while from < end {
+        let to = stretches.get(at + 1).map_or(end, |next| end.min(next.from as u64));
+        for m in from as u32..to as u32 {
+            let (new, clipped) = fast(stretches[at].rule, m);
+            let (new, kinds) = left((sign + m) as u64, ((sign + new) as u64, clipped), MARK as u64);
+            after[(m - first) as usize] = new as u32;
+            (0..4).for_each(|k| counts[k] += kinds[k] as u64);
+        }
+        (from, at) = (to, at + 1);
+    }
+    counts
+}
+/// One call on a block, after so many readings of the least size.
+fn array(t: &mut Tally, job: Job, before: &[u32], after: &[u32], counts: [u64; 4], least: usize) {
+    let mut lent: Vec<u32> = vec![1; least];
+    lent.extend_from_slice(before);
+    let mut told = [0; 4];
+    let answer = unsafe { megharutti_trim_singles(lent.as_mut_ptr(), lent.len(), job.method, job.setting, MARK, told.as_mut_ptr()) };
+    t.same(answer as u64, 0, || job.at("answer", 0, before[0] as u64));
+    t.compared += before.len() as u64;
+    if lent[least..] != *after {
+        t.compared -= before.len() as u64;
+        (0..before.len()).for_each(|i| t.same(lent[least + i] as u64, after[i] as u64, || job.at("array", i as u64, before[i] as u64)));
+    }
+    // The least reading is a zero by round and stays by digits.
+    let changed = least as u64 * (job.method == 4) as u64;
+    (0..4).for_each(|k| t.same(told[k], counts[k] + changed * (k == 0) as u64, || job.at("counts", k as u64, before[0] as u64)));
+}
+fn every_pattern(t: &mut Tally, form: &Form, job: Job) {
+    let began = Instant::now();
+    let stretches = stretches(form, job);
+    let sample = beside_exact(t, form, job, &stretches);
+    println!("method {} setting {}: fast form of the model beside the exact one, {sample} patterns", job.method, job.setting);
+    let (mut after, mut sums) = (vec![0; BLOCK], [0; 4]);
+    let patterns = 1u64 << 32;
+    for from in (0..patterns).step_by(BLOCK) {
+        let before: Vec<u32> = (0..BLOCK as u32).map(|i| from as u32 + i).collect();
+        let counts = block_after(&stretches, &before, &mut after);
+        // Twice, since an array without subnormal readings may be trimmed in a way of its own.
+        array(t, job, &before, &after, counts, 0);
+        array(t, job, &before, &after, counts, 1);
+        for (&old, &new) in before.iter().zip(&after) {
+            let got = unsafe { megharutti_trim_single(old, job.method, job.setting, MARK, 0) };
+            t.same(got, new as u64, || job.at("loader", 0, old as u64));
+        }
+        (0..4).for_each(|k| sums[k] += counts[k]);
+    }
+    let [changed, spared, clipped, missing] = sums;
+    println!("method {} setting {} mark {MARK:08X}: {patterns} patterns, each in two arrays and by the loader's call", job.method, job.setting);
+    println!("  changed {changed}, spared {spared}, clipped {clipped}, missing {missing}; {} differences", t.lines);
+    println!("  {} s", began.elapsed().as_secs());
+}
+pub fn run(t: &mut Tally, form: &Form) { JOBS.iter().for_each(|&job| every_pattern(t, form, job)); }
