@@ -130,7 +130,7 @@ fn every_pattern(t: &mut Tally, form: &Form, job: Job) {
         (0..4).for_each(|k| sums[k] += counts[k]);
     }
     let [changed, spared, clipped, missing] = sums;
-    println!("method {} setting {} mark {MARK:08X}: {patterns} patterns, each in two arrays and by the loader's call", job.method, job.setting);
+    println!("method {} setting {} mark {MARK:08X}: {patterns} patterns, in two arrays each and by the loader", job.method, job.setting);
     println!("  changed {changed}, spared {spared}, clipped {clipped}, missing {missing}; {} differences", t.lines);
     println!("  {} s", began.elapsed().as_secs());
 }

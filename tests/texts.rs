@@ -498,6 +498,28 @@ impl Maker {
             }
         }
     }
+    /// The largest texts of each method, and counts from 0 to 512 of each kind, which take from one digit to three.
+    fn large(&mut self) {
+        for method in 0..7 {
+            let (least, most) = self.model.form.range(method);
+            let setting = least + self.below((most - least + 1) as usize) as i32;
+            let text = self.draft(method, setting, 8, 512, 7).text();
+            self.add("512 lines of 8 series", 0, text);
+        }
+        // By round 7 with 01's mark these are changed, spared, clipped (and changed) and missing, and the last stays.
+        let readings = ["40490FDB", "7CF00001", "7F7FFFFF", "7CF00000", "3F800000"];
+        let counts = [0, 1, 2, 8, 9, 10, 11, 19, 20, 90, 99, 100, 101, 109, 110, 199, 200, 255, 256, 257, 499, 500, 509, 510, 511, 512];
+        for n in counts {
+            let lines = self.pick(&[n, 512, 512]);
+            let reading = |line: usize, series: usize| readings[if line * n / lines < (line + 1) * n / lines { series } else { 4 }];
+            let line = |line| (0..4).map(|series| reading(line, series)).collect::<Vec<_>>().join(",") + "\n";
+            let values: String = (0..lines).map(line).collect();
+            self.add("counts of each length", 0, format!("{HEAD}\nround,7,7CF00000\na,b,c,d\n{values}"));
+            let (want, ..) = self.model.answer(&self.texts.last().unwrap().bytes);
+            let counts = format!("{COUNTS}\n{n},0,0,0\n0,{n},0,0\n{n},0,{n},0\n0,0,0,{n}\n");
+            assert!(want.ends_with(&counts), "the model's counts");
+        }
+    }
     /// The job's line: settings as they may be spelled, and unknown words.
     fn jobs(&mut self) {
         let spelled = [
@@ -767,6 +789,7 @@ fn told(what: &str, kind: &str) -> &'static str { format!("{what}: {kind}").leak
 fn texts() -> Vec<Text> {
     let mut maker = Maker::new();
     maker.good();
+    maker.large();
     maker.jobs();
     maker.long();
     maker.ways();
@@ -1007,9 +1030,13 @@ fn main() {
         let (want, refusal, accepted) = model.answer(&text.bytes);
         let told = || format!("text {}, {}, {} bytes: \"{}\"", i + 1, text.kind, text.bytes.len(), shown(&text.bytes, 0));
         let said = text.said.unwrap_or(refusal);
-        if said != refusal { differs(format!("model answers {refusal}, made for {said}; {}", told())); }
-        if got.out != want.as_bytes() { differs(format!("{}; {}", difference(&got.out, want.as_bytes()), told())); }
-        if let Some(fault) = &got.fault { differs(format!("{fault}; {}", told())); }
+        if said != refusal {
+            differs(format!("model answers {refusal}, made for {said}; {}", told()));
+        } else if let Some(fault) = &got.fault {
+            differs(format!("{fault}; {}", told()));
+        } else if got.out != want.as_bytes() {
+            differs(format!("{}; {}", difference(&got.out, want.as_bytes()), told()));
+        }
         met.text(text, refusal);
         by.push(accepted.as_ref().and_then(|x| model.method(&x.0.word)));
         if let Some((job, series)) = accepted { met.accepted(&model, text, &job, &series); }
