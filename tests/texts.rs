@@ -316,7 +316,7 @@ impl Model {
         }
         out
     }
-    fn names(&self, job: &Job) -> String { job.names.iter().map(|x| String::from_utf8_lossy(x)).collect::<Vec<_>>().join(",") + "\n" }
+    fn names(&self, job: &Job) -> String { String::from_utf8(job.names.join(&b","[..])).expect("names in ASCII") + "\n" }
     /// What the program prints, the number of the refusal, or 0, and for an accepted text what it says and its trimmed series.
     fn answer(&self, text: &[u8]) -> (String, u32, Option<(Job, Vec<Series>)>) {
         let (refusal, job) = self.ask(&self.taken(text));
@@ -429,6 +429,11 @@ impl Maker {
         };
         mark & 0xFFFF_FFFF
     }
+    /// A setting in the method's range.
+    fn setting(&mut self, method: u32) -> i32 {
+        let (least, most) = self.model.form.range(method);
+        least + self.below((most - least + 1) as usize) as i32
+    }
     fn spelled(&mut self, setting: i32) -> String {
         let minus = if setting < 0 || setting == 0 && self.below(4) == 0 { "-" } else { "" };
         let width = self.pick(&[1, 1, 1, 2, 3, 4]);
@@ -463,8 +468,7 @@ impl Maker {
     /// A small accepted draft of any kind.
     fn small(&mut self) -> Draft {
         let method = self.below(7) as u32;
-        let (least, most) = self.model.form.range(method);
-        let setting = least + self.below((most - least + 1) as usize) as i32;
+        let setting = self.setting(method);
         let (series, lines, kind) = (1 + self.below(4), 1 + self.below(6), self.below(MARKS.len()));
         self.draft(method, setting, series, lines, kind)
     }
@@ -481,7 +485,7 @@ impl Maker {
                 self.add(if said == 0 { "every setting" } else { "one setting beyond" }, said, text);
             }
             for kind in (0..MARKS.len()).flat_map(|kind| [kind; 4]) {
-                let setting = least + self.below((most - least + 1) as usize) as i32;
+                let setting = self.setting(method);
                 let (series, lines) = (1 + self.below(3), 6 + self.below(30));
                 let text = self.draft(method, setting, series, lines, kind).text();
                 self.add(told("mark", MARKS[kind]), 0, text);
@@ -490,9 +494,7 @@ impl Maker {
         for lines in [0, 1, 2, 3, 4, 5, 15, 16, 17, 32, 63, 64, 65, 255, 256, 257, 511, 512] {
             for series in 1..=8 {
                 let method = self.below(7) as u32;
-                let (least, most) = self.model.form.range(method);
-                let setting = least + self.below((most - least + 1) as usize) as i32;
-                let kind = self.below(MARKS.len());
+                let (setting, kind) = (self.setting(method), self.below(MARKS.len()));
                 let text = self.draft(method, setting, series, lines, kind).text();
                 self.add("every number of series", 0, text);
             }
@@ -501,8 +503,7 @@ impl Maker {
     /// The largest texts of each method, and counts from 0 to 512 of each kind, which take from one digit to three.
     fn large(&mut self) {
         for method in 0..7 {
-            let (least, most) = self.model.form.range(method);
-            let setting = least + self.below((most - least + 1) as usize) as i32;
+            let setting = self.setting(method);
             let text = self.draft(method, setting, 8, 512, 7).text();
             self.add("512 lines of 8 series", 0, text);
         }
@@ -584,7 +585,7 @@ impl Maker {
             self.add(if lines > 512 { "513 lines and more" } else { "nine series and more" }, 9, draft.text());
         }
     }
-    /// Texts that come in pieces, and from a file.
+    /// Texts that come in pieces, so that a read gives less than there is to come, and from a file.
     fn ways(&mut self) {
         let long = self.longest("halfshave").text();
         let mut damaged = long.clone();
