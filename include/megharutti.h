@@ -40,6 +40,9 @@
 #include <stddef.h>
 #include <stdint.h>
 
+/* The version of this header, of the library and of the program trimlist. */
+#define MEGHARUTTI_VERSION "1.0.0"
+
 #ifdef __cplusplus
 extern "C" {
 #endif

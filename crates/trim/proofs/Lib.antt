@@ -1,11 +1,3 @@
-pub mod Walks
-pub mod Few
-pub mod Rest
-pub mod Blocks
-pub mod Planned
 pub mod Meaning
-pub mod Tails
-pub mod Plans
-pub mod Methods
 pub mod Calls
 pub mod Loader

@@ -1,0 +1,8 @@
+pub mod Walks
+pub mod Few
+pub mod Rest
+pub mod Blocks
+pub mod Planned
+pub mod Tails
+pub mod Plans
+pub mod Methods
