@@ -103,7 +103,7 @@ fn answer(text: &[u8]) {
 
 // The longest text that has the form has 37,052 bytes: 20 of the header, 32 of the job, 136 of the names and 512 lines of 72. One of 37,053 is refused with 9, whatever
 // follows it.
-fn main() {
+fn run() {
     let mut text = [0u8; 37053];
     let input = read_input(&mut text);
     if input.failed {
@@ -116,4 +116,19 @@ fn main() {
         skip_rest();
     }
     answer(&text[..n]);
+}
+
+// The program takes no argument: whatever it is given, it says what it is.
+fn about() {
+    write_answer(
+        b"trimlist 1.0.0\ntrims the text that it reads from standard input: trimlist <text\n",
+    );
+}
+
+fn main() {
+    if os::arg_count() > 1 {
+        about();
+        return;
+    }
+    run();
 }
