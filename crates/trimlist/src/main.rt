@@ -70,24 +70,6 @@ fn read_input(text: &mut [u8]) -> Input
     }
 }
 
-// Reads and forgets some of the input; false at its end, and where it can't be read.
-fn skip_some() -> bool {
-    let mut rest = io::buffer();
-    let got = libc::read(STDIN_FILENO, &mut rest);
-    if got < 0 {
-        return os::errno() == EINTR;
-    }
-    got > 0
-}
-
-// Reads and forgets the rest of a text that is too long, so that a program that still writes it isn't cut off.
-fn skip_rest() {
-    let mut turns = u64::MAX;
-    while turns > 0 && skip_some() {
-        turns -= 1;
-    }
-}
-
 fn write_answer(answer: &[u8]) {
     if !io::write_all(STDOUT_FILENO, answer) {
         os::fail(b"trimlist: the answer could not be written to standard output");
@@ -101,8 +83,8 @@ fn answer(text: &[u8]) {
     write_answer(&out[..n]);
 }
 
-// The longest text that has the form has 37,052 bytes: 20 of the header, 32 of the job, 136 of the names and 512 lines of 72. One of 37,053 is refused with 9, whatever
-// follows it.
+// The longest text that has the form has 37,052 bytes: 20 of the header, 32 of the job, 136 of the names and 512 lines of 72. Once 37,053 bytes
+// are read the text is refused with 9 whatever follows them, so no more is read.
 fn run() {
     let mut text = [0u8; 37053];
     let input = read_input(&mut text);
@@ -112,9 +94,6 @@ fn run() {
         return;
     }
     let n = input.bytes;
-    if n == 37053 {
-        skip_rest();
-    }
     answer(&text[..n]);
 }
 

@@ -26,14 +26,11 @@ write-answer-requires c κs = search needs
 returns : tie.Need-returns
 returns c = search needs
 
-skip-rest-requires : tie.Need-skip-rest-requires
-skip-rest-requires c κs = search needs
-
 array-share-prefix-text : tie.Need-array-share-prefix-text
 array-share-prefix-text c = search needs
 
 slice-aggregate-answer : tie.Need-slice-aggregate-answer
-slice-aggregate-answer c = sym (length-take-le _ _ (c .before .before .before .before .read-input .ensures))
+slice-aggregate-answer c = sym (length-take-le _ _ (c .before .before .before .read-input .ensures))
 
 answer-requires : tie.Need-answer-requires
 answer-requires c κs = search needs
@@ -52,7 +49,6 @@ run-spec =
     slice-aggregate-write-answer
     write-answer-requires
     returns
-    skip-rest-requires
     array-share-prefix-text
     slice-aggregate-answer
     answer-requires
