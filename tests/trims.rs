@@ -134,7 +134,7 @@ fn marks(t: &mut Tally, form: &Form, readings: &[u64], plain: &[(u64, bool)]) ->
     let mut out = vec![top + (1 << (form.f - 1)), form.all, 0, form.sign, form.sign + top, t.pick(readings)];
     let made: Vec<u64> = (0..readings.len()).filter(|&i| plain[i].0 != readings[i]).map(|i| plain[i].0).collect();
     let clipped = plain.iter().filter(|x| x.1).map(|x| x.0);
-    let lone = t.pick(&[1, top - 1, 1 << form.f, top]);
+    let lone = t.pick(&[1, top - 1, 1 << form.f, top, top + 1]); // the last is a signalling NaN
     out.extend(clipped.clone().min().into_iter().chain(clipped.max()).chain([lone]));
     if !made.is_empty() { out.extend([t.pick(&made), t.pick(&made)]); }
     out
