@@ -1,13 +1,16 @@
 //! Compares the trims of the C interface with a model of document 01 in exact whole numbers, place by place and count by count.
 //!
 //! The model knows nothing of the library. Where the machine's own floats can give the same answer exactly, they are asked too,
-//! so that a slip in the model doesn't pass for a slip in the library. Every run makes the same comparisons. With --all it takes every
-//! single pattern instead, by two methods.
+//! so that a slip in the model doesn't pass for a slip in the library. Every run makes the same comparisons. It first turns one rule of
+//! the model at a time: each such wrong model must differ from the library, by each call and each method that the rule concerns. With
+//! --self-test it ends there. With --all it takes every single pattern instead, by two methods.
 mod every;
 mod model;
 mod nat;
-use model::{ends, left, tens, Form};
+mod wrong;
+use model::{ends, tens, Form};
 use std::process::exit;
+use wrong::{row, Model, Rule, DOUBLES, LOADER, SINGLES};
 
 extern "C" {
     fn megharutti_trim_single(reading: u32, method: u32, setting: i32, mark: u32, place: u64) -> u64;
@@ -15,15 +18,29 @@ extern "C" {
     fn megharutti_trim_doubles(readings: *mut u64, n: usize, method: u32, setting: i32, mark: u64, counts: *mut u64) -> u32;
 }
 
-struct Tally { compared: u64, lines: u32, seed: u64 }
+struct Tally {
+    compared: u64, lines: u32, seed: u64,
+    only: Option<(usize, usize)>, // for a wrong model, the call and the method that are to show it
+    first: (u64, String), // the first difference, and after how many comparisons
+}
 impl Tally {
+    fn new(only: Option<(usize, usize)>) -> Tally {
+        Tally { compared: 0, lines: 0, seed: 0x9E3779B97F4A7C15, only, first: (0, String::new()) }
+    }
     fn same(&mut self, got: u64, want: u64, told: impl FnOnce() -> String) {
         self.compared += 1;
         if got == want { return; }
-        println!("{} got {got:08X} expected {want:08X}", told());
         self.lines += 1;
+        if self.lines > 1 && self.only.is_some() { return; }
+        let line = format!("{} got {got:08X} expected {want:08X}", told());
+        if self.only.is_none() { println!("{line}"); }
+        if self.lines == 1 { self.first = (self.compared, line); }
         if self.lines == 10 { exit(1); }
     }
+    /// Whether a wrong model has been seen.
+    fn over(&self) -> bool { self.only.is_some() && self.lines > 0 }
+    fn skips_method(&self, method: u32) -> bool { self.only.is_some_and(|only| only.1 != row(method)) }
+    fn skips(&self, call: usize, method: u32) -> bool { self.only.is_some_and(|only| only != (call, row(method))) }
     fn random(&mut self) -> u64 {
         self.seed ^= self.seed << 13; self.seed ^= self.seed >> 7; self.seed ^= self.seed << 17;
         self.seed.wrapping_mul(0x2545F4914F6CDD1D).rotate_left(29)
@@ -40,57 +57,73 @@ impl Job {
     }
 }
 
+/// A method's own results, before sparing, and whether they were clipped: of each reading at its place, and at a place of the other parity.
+struct Plain { here: Vec<(u64, bool)>, other: Vec<(u64, bool)> }
+impl Plain {
+    fn of(model: &Model, job: Job, readings: &[u64]) -> Plain {
+        let refused = model.form.refusal(job.method, job.setting) != 0;
+        let odd = |i: usize, flip: bool| (i % 2 == 1) != (flip != model.is(Rule::Parity));
+        let trim = |i, x, flip| if refused { (x, false) } else { model.form.trim(job.method, job.setting, x, odd(i, flip)) };
+        let all = |flip| readings.iter().enumerate().map(|(i, &x)| trim(i, x, flip)).collect();
+        let here: Vec<(u64, bool)> = all(false);
+        let other = if job.method == 2 { all(true) } else { here.clone() }; // only groom asks for the place
+        Plain { here, other }
+    }
+    /// The same without the first reading, so that each stands at a place of the other parity.
+    fn rest(&self) -> Plain { Plain { here: self.other[1..].to_vec(), other: self.here[1..].to_vec() } }
+}
+
 /// One array call, on a part of a longer array, against the model. Answers the array as the call left it.
-fn array(t: &mut Tally, form: &Form, job: Job, before: &[u64], plain: &[(u64, bool)]) -> Vec<u64> {
+fn array(t: &mut Tally, model: &Model, job: Job, before: &[u64], plain: &Plain) -> Vec<u64> {
     const UNTOLD: u64 = 0x5A5A_1234_5A5A_4321; // what the counts hold before the call, so that adding to them or leaving them shows
     let Job { method, setting, mark } = job;
+    let (form, call) = (&model.form, if model.form.f == 23 { SINGLES } else { DOUBLES });
     let (n, front) = (before.len(), 1 + t.below(8) as usize); // any alignment
+    if t.skips(call, method) { return before.to_vec(); }
     let guard = form.infinity / 2 + 0x2A5A5B; // trimming would change it
     let mut lent = vec![guard; n + front + 5];
     lent[front..front + n].copy_from_slice(before);
     let mut counts = [UNTOLD; 6];
     let told = unsafe { counts.as_mut_ptr().add(1) };
     let mut singles: Vec<u32> = lent.iter().map(|&x| x as u32).collect();
-    let answer = match form.f {
-        23 => unsafe { megharutti_trim_singles(singles.as_mut_ptr().add(front), n, method, setting, mark as u32, told) },
+    let answer = match call {
+        SINGLES => unsafe { megharutti_trim_singles(singles.as_mut_ptr().add(front), n, method, setting, mark as u32, told) },
         _ => unsafe { megharutti_trim_doubles(lent.as_mut_ptr().add(front), n, method, setting, mark, told) },
     };
-    if form.f == 23 { lent = singles.iter().map(|&x| x as u64).collect(); }
-    let refusal = form.refusal(method, setting);
+    if call == SINGLES { lent = singles.iter().map(|&x| x as u64).collect(); }
+    let refusal = model.refusal(method, setting);
     t.same(answer as u64, refusal as u64, || job.at("answer", n as u64, 0));
     let mut want = [UNTOLD, 0, 0, 0, 0, UNTOLD];
     for i in 0..n {
         let old = before[i];
-        let (new, kinds) = if refusal != 0 { (old, [false; 4]) } else { left(old, plain[i], mark) };
+        let flip = model.is(Rule::PresentPlaces) && want[4] % 2 == 1; // so many missing readings stand before it
+        let own = if flip { plain.other[i] } else { plain.here[i] };
+        let (new, kinds) = if refusal != 0 { model.refused(old) } else { model.left(old, own, mark) };
         (0..4).for_each(|k| want[k + 1] += kinds[k] as u64);
         t.same(lent[front + i], new, || job.at("array", i as u64, old));
     }
     let outside = (0..front).chain(front + n..lent.len());
     outside.for_each(|i| t.same(lent[i], guard, || job.at("outside the array", i as u64, guard)));
-    let want = if refusal != 0 { [UNTOLD; 6] } else { want };
+    let want = if refusal != 0 && !model.is(Rule::RefusedCounts) { [UNTOLD; 6] } else { model.counted(want) };
     (0..6).for_each(|i| t.same(counts[i], want[i], || job.at("counts 1 to 4, 0 and 5 outside", i as u64, UNTOLD)));
     lent[front..front + n].to_vec()
 }
 
-/// The model's results before sparing; `odd` when the first reading stands at an odd place.
-fn plain(form: &Form, job: Job, readings: &[u64], odd: bool) -> Vec<(u64, bool)> {
-    let refused = form.refusal(job.method, job.setting) != 0;
-    let trim = |i, x| if refused { (x, false) } else { form.trim(job.method, job.setting, x, (i % 2 == 1) != odd) };
-    readings.iter().enumerate().map(|(i, &x)| trim(i, x)).collect()
-}
-
 /// The loader's call on each reading at places of both parities, against the model and against what the array call left.
-fn loader(t: &mut Tally, form: &Form, job: Job, before: &[u64], after: &[u64], models: [&[(u64, bool)]; 2]) {
-    let refusal = form.refusal(job.method, job.setting);
+fn loader(t: &mut Tally, model: &Model, job: Job, before: &[u64], after: &[u64], plain: &Plain) {
+    if t.skips(LOADER, job.method) { return; }
+    let refusal = model.refusal(job.method, job.setting);
     for (i, &old) in before.iter().enumerate() {
-        for place in [0, 1, 1 << 63, u64::MAX] {
-            let got = unsafe { megharutti_trim_single(old as u32, job.method, job.setting, job.mark as u32, place) };
-            let flip = i as u64 % 2 != place % 2;
-            let new = models[flip as usize][i].0;
-            let new = if old == job.mark || new == job.mark { old } else { new };
-            let want = if refusal != 0 { (1 << 32) + refusal as u64 } else { new };
-            t.same(got, want, || job.at("loader", place, old));
-            if refusal == 0 && !flip { t.same(got, after[i], || job.at("loader beside array", place, old)); }
+        for (flip, own) in [(0, plain.here[i]), (1, plain.other[i])] {
+            let new = model.left(old, own, job.mark).0;
+            let want = if refusal == 0 { new } else { model.refused_alone(refusal) };
+            let places = [[0, 1 << 63], [1, u64::MAX]][(i + flip) % 2];
+            for place in places {
+                let got = unsafe { megharutti_trim_single(old as u32, job.method, job.setting, job.mark as u32, place) };
+                t.same(got, want, || job.at("loader", place, old));
+                let beside = refusal == 0 && flip == 0 && t.only.is_none();
+                if beside { t.same(got, after[i], || job.at("loader beside array", place, old)); }
+            }
         }
     }
 }
@@ -150,15 +183,16 @@ const CASES: [(&str, u32, &[i32], u64, u64); 16] = [
     ("P10", 4, &[8, 7], 0x3F817F80, 0x3F820000), ("P10", 4, &[7], 0x3F817F80, 0x3F810000),
 ];
 
-fn marked_cases(t: &mut Tally, form: &Form) {
+fn marked_cases(t: &mut Tally, model: &Model) {
     let mark = 0x7FC00000;
     for (name, method, settings, start, after) in CASES {
         let (&setting, earlier) = settings.split_last().unwrap();
         let before = earlier.iter().fold(start, |x, &s| unsafe { megharutti_trim_single(x as u32, method, s, mark as u32, 0) });
-        let (job, printed) = (Job { method, setting, mark }, [(after, name == "P6")]);
-        t.same(form.trim(method, setting, before, false).0, after, || job.at("model", 0, before));
-        let left = array(t, form, job, &[before], &printed);
-        loader(t, form, job, &[before], &left, [&printed, &printed]);
+        let (job, printed) = (Job { method, setting, mark }, vec![(after, name == "P6")]);
+        t.same(model.form.trim(method, setting, before, false).0, after, || job.at("model", 0, before));
+        let plain = Plain { here: printed.clone(), other: printed };
+        let left = array(t, model, job, &[before], &plain);
+        loader(t, model, job, &[before], &left, &plain);
     }
     // The document's list for the program, each series as one array, with the counts that it prints.
     let series = [([0x40490FDB, 0x7CF00001], [0x40490000, 0x7CF00001], [1, 1, 0, 0]),
@@ -173,82 +207,126 @@ fn marked_cases(t: &mut Tally, form: &Form) {
     }
 }
 
-fn width(t: &mut Tally, form: &Form) {
-    let tens = tens(form);
-    // Printed with all its digits a reading shows its decade, so the model's decades are checked without the model's table.
+/// Printed with all its digits a reading shows its decade, so the model's decades are checked without the model's table.
+fn decades(t: &mut Tally, form: &Form, tens: &[u64]) {
     for m in tens.iter().copied().chain(ends(form)).filter(|&m| m > 0 && m < form.infinity) {
         let x = if form.f == 23 { f32::from_bits(m as u32) as f64 } else { f64::from_bits(m) };
         let printed: i32 = format!("{x:.800e}").split_once('e').unwrap().1.parse().unwrap();
         t.same(form.decade(m) as u64, (printed + 1) as u64, || format!("model's decade: before {m:08X}"));
     }
-    // Every method with every setting, one setting more on each side and the ends of the number; then unknown methods.
+}
+/// The model beside the machine's floats.
+fn machine(t: &mut Tally, form: &Form, job: Job, before: &[u64], plain: &Plain) {
+    for (&old, &(new, _)) in before.iter().zip(&plain.here) {
+        let Some(x) = form.machine(job.method, job.setting, old) else { continue };
+        t.same(new, x, || job.at("model, expected by the machine's floats", 0, old));
+    }
+}
+/// Every setting of a method, one more on each side and the ends of the number. Those where the answer changes come first, so that a wrong
+/// model is seen soon.
+fn settings(form: &Form, method: u32) -> Vec<i32> {
+    let (least, most) = if method > 6 { (-1, 8) } else { form.range(method) };
+    [i32::MIN, i32::MAX, least - 1, most + 1, least, most].into_iter().chain(least + 1..most).collect()
+}
+/// One method and setting, with marks of each kind.
+fn setting(t: &mut Tally, model: &Model, method: u32, setting: i32, tens: &[u64]) {
+    let (form, job) = (&model.form, Job { method, setting, mark: 0 });
+    let mut before = readings(t, form, method, setting, tens);
+    let refused = form.refusal(method, setting) != 0;
+    before.truncate(if refused { 300 } else { usize::MAX });
+    let plain = Plain::of(model, job, &before);
+    if !refused && t.only.is_none() { machine(t, form, job, &before, &plain); }
+    let rest = plain.rest();
+    for mark in marks(t, form, &before, &plain.here) {
+        if t.over() { return; }
+        let job = Job { mark, ..job };
+        let after = array(t, model, job, &before, &plain);
+        array(t, model, job, &before[1..], &rest); // each reading at a place of the other parity
+        array(t, model, job, &[], &Plain { here: vec![], other: vec![] });
+        if form.f == 23 { loader(t, model, job, &before, &after, &plain); }
+    }
+    // The same readings without the subnormal ones, and more of every exponent: long arrays of such may be trimmed in a way of their own.
+    let mut normal: Vec<u64> = before.iter().copied().filter(|x| x % form.sign == 0 || x % form.sign >= 1 << form.f).collect();
+    while !refused && normal.len() < 5000 {
+        normal.push(((1 + t.below((1 << form.e) - 1)) << form.f) + (t.random() >> (64 - form.f)) + form.sign * t.below(2));
+    }
+    let plain = Plain::of(model, job, &normal);
+    for mark in marks(t, form, &normal, &plain.here) { array(t, model, Job { mark, ..job }, &normal, &plain); }
+}
+/// Lengths around a block's, with missing readings strewn in, and with nothing else.
+fn lengths(t: &mut Tally, model: &Model, method: u32) {
+    let (form, ends) = (&model.form, ends(&model.form));
+    for n in [0, 1, 2, 3, 5, 17, 1000, 65535, 65536, 65537, 131073] {
+        let (least, most) = if method == 5 { (-4, 4) } else { form.range(method) };
+        let mut before: Vec<u64> = (0..n).map(|_| (t.random() & form.all) >> t.below(3)).collect();
+        (0..n / 9).for_each(|_| before[t.below(n) as usize] = t.pick(&ends));
+        let job = Job { method, setting: least + t.below((most - least + 1) as u64) as i32, mark: t.pick(&ends) };
+        array(t, model, job, &before, &Plain::of(model, job, &before));
+        let refused = Job { setting: -2000, ..job };
+        array(t, model, refused, &before, &Plain::of(model, refused, &before));
+        let missing = vec![job.mark; n as usize];
+        array(t, model, job, &missing, &Plain::of(model, job, &missing));
+    }
+}
+/// A list of calls on one array with one mark, refused calls among them: each call gets the array as the last one left it.
+fn list(t: &mut Tally, model: &Model) {
+    let form = &model.form;
+    let near = t.below((1 << form.e) - 1);
+    let mut now: Vec<u64> = (0..1 + t.below(60)).map(|_| (near << form.f) + (t.random() >> (63 - form.f))).collect();
+    now.iter_mut().for_each(|x| *x += form.sign * t.below(2));
+    let mark = form.trim(4, t.below(form.f as u64) as i32, now[0], false).0;
+    for _ in 0..t.below(6) {
+        let (method, bits) = (t.below(8) as u32, t.below(form.f as u64 + 2) as i32);
+        let exponent = near as i32 - (1 << (form.e - 1)) + 1;
+        let job = Job { method, setting: if method == 5 { exponent + 1 - bits } else { bits }, mark };
+        now = array(t, model, job, &now, &Plain::of(model, job, &now));
+    }
+}
+fn width(t: &mut Tally, model: &Model) {
+    let tens = tens(&model.form);
+    if t.only.is_none() { decades(t, &model.form, &tens); }
     for method in (0..10).chain([u32::MAX]) {
-        let (least, most) = if method > 6 { (-1, 8) } else { form.range(method) };
-        for setting in (least - 1..=most + 1).chain([i32::MIN, i32::MAX]) {
-            let job = Job { method, setting, mark: 0 };
-            let mut before = readings(t, form, method, setting, &tens);
-            let refused = form.refusal(method, setting) != 0;
-            before.truncate(if refused { 300 } else { usize::MAX });
-            let models = [plain(form, job, &before, false), plain(form, job, &before, true)];
-            for (&old, &(new, _)) in before.iter().zip(&models[0]).filter(|_| !refused) {
-                let Some(x) = form.machine(method, setting, old) else { continue };
-                t.same(new, x, || job.at("model, expected by the machine's floats", 0, old));
-            }
-            for mark in marks(t, form, &before, &models[0]) {
-                let job = Job { mark, ..job };
-                let after = array(t, form, job, &before, &models[0]);
-                array(t, form, job, &before[1..], &models[1][1..]); // each reading at a place of the other parity
-                array(t, form, job, &[], &[]);
-                if form.f == 23 { loader(t, form, job, &before, &after, [&models[0], &models[1]]); }
-            }
-            // The same readings without the subnormal ones, and more of every exponent: long arrays of such may be trimmed in a way of their own.
-            let mut normal: Vec<u64> = before.iter().copied().filter(|x| x % form.sign == 0 || x % form.sign >= 1 << form.f).collect();
-            while !refused && normal.len() < 5000 {
-                normal.push(((1 + t.below((1 << form.e) - 1)) << form.f) + (t.random() >> (64 - form.f)) + form.sign * t.below(2));
-            }
-            let model = plain(form, job, &normal, false);
-            for mark in marks(t, form, &normal, &model) { array(t, form, Job { mark, ..job }, &normal, &model); }
+        if t.skips_method(method) { continue; }
+        for s in settings(&model.form, method) {
+            if t.over() { return; }
+            setting(t, model, method, s, &tens);
         }
     }
-    // Lengths around a block's, with missing readings strewn in, and with nothing else.
-    let ends = ends(form);
     for method in 0..7 {
-        for n in [0, 1, 2, 3, 5, 17, 1000, 65535, 65536, 65537, 131073] {
-            let (least, most) = if method == 5 { (-4, 4) } else { form.range(method) };
-            let mut before: Vec<u64> = (0..n).map(|_| (t.random() & form.all) >> t.below(3)).collect();
-            (0..n / 9).for_each(|_| before[t.below(n) as usize] = t.pick(&ends));
-            let job = Job { method, setting: least + t.below((most - least + 1) as u64) as i32, mark: t.pick(&ends) };
-            array(t, form, job, &before, &plain(form, job, &before, false));
-            array(t, form, Job { setting: -2000, ..job }, &before, &[]);
-            let missing = vec![job.mark; n as usize];
-            array(t, form, job, &missing, &plain(form, job, &missing, false));
-        }
+        if !t.over() && !t.skips_method(method) { lengths(t, model, method); }
     }
-    // Lists of calls on one array with one mark, refused calls among them: each call gets the array as the last one left it.
     for _ in 0..3000 {
-        let near = t.below((1 << form.e) - 1);
-        let mut now: Vec<u64> = (0..1 + t.below(60)).map(|_| (near << form.f) + (t.random() >> (63 - form.f))).collect();
-        now.iter_mut().for_each(|x| *x += form.sign * t.below(2));
-        let mark = form.trim(4, t.below(form.f as u64) as i32, now[0], false).0;
-        for _ in 0..t.below(6) {
-            let (method, bits) = (t.below(8) as u32, t.below(form.f as u64 + 2) as i32);
-            let exponent = near as i32 - (1 << (form.e - 1)) + 1;
-            let job = Job { method, setting: if method == 5 { exponent + 1 - bits } else { bits }, mark };
-            now = array(t, form, job, &now, &plain(form, job, &now, false));
-        }
+        if !t.over() { list(t, model); }
     }
 }
 
-fn main() {
-    let mut t = Tally { compared: 0, lines: 0, seed: 0x9E3779B97F4A7C15 };
-    let (single, double) = (Form::new(23, 8), Form::new(52, 11));
-    if std::env::args().any(|x| x == "--all") {
-        every::run(&mut t, &single);
-    } else {
-        marked_cases(&mut t, &single);
-        width(&mut t, &single);
-        width(&mut t, &double);
+/// Everything; with a rule turned only what one call and one method can show of it, up to the first difference.
+fn run(turned: Option<Rule>, only: Option<(usize, usize)>) -> Tally {
+    let mut t = Tally::new(only);
+    let call = only.map(|x| x.0);
+    if call != Some(DOUBLES) {
+        let model = Model { form: Form::new(23, 8), turned }.slipped();
+        if call.is_none() { marked_cases(&mut t, &model); }
+        width(&mut t, &model);
     }
-    if t.lines > 0 { exit(1); }
-    println!("trims: {} comparisons, no difference", t.compared);
+    if call.is_none() || call == Some(DOUBLES) { width(&mut t, &Model { form: Form::new(52, 11), turned }.slipped()); }
+    t
+}
+
+fn main() {
+    if std::env::args().any(|x| x == "--all") {
+        let mut t = Tally::new(None);
+        every::run(&mut t, &Form::new(23, 8));
+        return finish(&t, None);
+    }
+    let unseen = wrong::self_test(|rule, call, method| run(Some(rule), Some((call, method))).first);
+    if std::env::args().any(|x| x == "--self-test") { exit((unseen > 0) as i32); }
+    let t = run(None, None);
+    finish(&t, (unseen > 0).then_some("a wrong model NOT SEEN"));
+}
+/// The last line of a run; any difference comes before any other fault.
+fn finish(t: &Tally, fault: Option<&str>) {
+    let fault = if t.lines > 0 { Some("DIFFERENCES") } else { fault };
+    println!("trims: {} comparisons, {}", t.compared, fault.unwrap_or("no difference"));
+    if fault.is_some() { exit(1); }
 }
