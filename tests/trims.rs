@@ -5,9 +5,11 @@
 //! the model at a time: each such wrong model must differ from the library, by each call and each method that the rule concerns. With
 //! --self-test it ends there. With --all it takes every single pattern instead, by two methods.
 mod every;
+mod met;
 mod model;
 mod nat;
 mod wrong;
+use met::Met;
 use model::{ends, tens, Form};
 use std::process::exit;
 use wrong::{row, Model, Rule, DOUBLES, LOADER, SINGLES};
@@ -22,10 +24,11 @@ struct Tally {
     compared: u64, lines: u32, seed: u64,
     only: Option<(usize, usize)>, // for a wrong model, the call and the method that are to show it
     first: (u64, String), // the first difference, and after how many comparisons
+    met: Met,
 }
 impl Tally {
     fn new(only: Option<(usize, usize)>) -> Tally {
-        Tally { compared: 0, lines: 0, seed: 0x9E3779B97F4A7C15, only, first: (0, String::new()) }
+        Tally { compared: 0, lines: 0, seed: 0x9E3779B97F4A7C15, only, first: (0, String::new()), met: Met::new() }
     }
     fn same(&mut self, got: u64, want: u64, told: impl FnOnce() -> String) {
         self.compared += 1;
@@ -91,7 +94,7 @@ fn array(t: &mut Tally, model: &Model, job: Job, before: &[u64], plain: &Plain) 
         _ => unsafe { megharutti_trim_doubles(lent.as_mut_ptr().add(front), n, method, setting, mark, told) },
     };
     if call == SINGLES { lent = singles.iter().map(|&x| x as u64).collect(); }
-    let refusal = model.refusal(method, setting);
+    let (began, refusal) = (t.compared, model.refusal(method, setting));
     t.same(answer as u64, refusal as u64, || job.at("answer", n as u64, 0));
     let mut want = [UNTOLD, 0, 0, 0, 0, UNTOLD];
     for i in 0..n {
@@ -99,6 +102,7 @@ fn array(t: &mut Tally, model: &Model, job: Job, before: &[u64], plain: &Plain) 
         let flip = model.is(Rule::PresentPlaces) && want[4] % 2 == 1; // so many missing readings stand before it
         let own = if flip { plain.other[i] } else { plain.here[i] };
         let (new, kinds) = if refusal != 0 { model.refused(old) } else { model.left(old, own, mark) };
+        if refusal == 0 { t.met.reading(call, form, job, old, own, kinds, 1); }
         (0..4).for_each(|k| want[k + 1] += kinds[k] as u64);
         t.same(lent[front + i], new, || job.at("array", i as u64, old));
     }
@@ -106,16 +110,18 @@ fn array(t: &mut Tally, model: &Model, job: Job, before: &[u64], plain: &Plain) 
     outside.for_each(|i| t.same(lent[i], guard, || job.at("outside the array", i as u64, guard)));
     let want = if refusal != 0 && !model.is(Rule::RefusedCounts) { [UNTOLD; 6] } else { model.counted(want) };
     (0..6).for_each(|i| t.same(counts[i], want[i], || job.at("counts 1 to 4, 0 and 5 outside", i as u64, UNTOLD)));
+    t.met.call(call, form, job, refusal, [1, n as u64, t.compared - began]);
     lent[front..front + n].to_vec()
 }
 
 /// The loader's call on each reading at places of both parities, against the model and against what the array call left.
 fn loader(t: &mut Tally, model: &Model, job: Job, before: &[u64], after: &[u64], plain: &Plain) {
     if t.skips(LOADER, job.method) { return; }
-    let refusal = model.refusal(job.method, job.setting);
+    let (began, refusal) = (t.compared, model.refusal(job.method, job.setting));
     for (i, &old) in before.iter().enumerate() {
         for (flip, own) in [(0, plain.here[i]), (1, plain.other[i])] {
-            let new = model.left(old, own, job.mark).0;
+            let (new, kinds) = model.left(old, own, job.mark);
+            if refusal == 0 { t.met.reading(LOADER, &model.form, job, old, own, kinds, 2); }
             let want = if refusal == 0 { new } else { model.refused_alone(refusal) };
             let places = [[0, 1 << 63], [1, u64::MAX]][(i + flip) % 2];
             for place in places {
@@ -126,6 +132,8 @@ fn loader(t: &mut Tally, model: &Model, job: Job, before: &[u64], after: &[u64],
             }
         }
     }
+    let calls = 4 * before.len() as u64;
+    t.met.call(LOADER, &model.form, job, refusal, [calls, calls, t.compared - began]);
 }
 
 /// The magnitude with exponent field e and a fraction whose last bits lie at, or next to, what decides a rounding at bit `at`.
@@ -213,6 +221,7 @@ fn decades(t: &mut Tally, form: &Form, tens: &[u64]) {
         let x = if form.f == 23 { f32::from_bits(m as u32) as f64 } else { f64::from_bits(m) };
         let printed: i32 = format!("{x:.800e}").split_once('e').unwrap().1.parse().unwrap();
         t.same(form.decade(m) as u64, (printed + 1) as u64, || format!("model's decade: before {m:08X}"));
+        t.met.decades += 1;
     }
 }
 /// The model beside the machine's floats.
@@ -220,6 +229,7 @@ fn machine(t: &mut Tally, form: &Form, job: Job, before: &[u64], plain: &Plain) 
     for (&old, &(new, _)) in before.iter().zip(&plain.here) {
         let Some(x) = form.machine(job.method, job.setting, old) else { continue };
         t.same(new, x, || job.at("model, expected by the machine's floats", 0, old));
+        t.met.machine += 1;
     }
 }
 /// Every setting of a method, one more on each side and the ends of the number. Those where the answer changes come first, so that a wrong
@@ -322,7 +332,8 @@ fn main() {
     let unseen = wrong::self_test(|rule, call, method| run(Some(rule), Some((call, method))).first);
     if std::env::args().any(|x| x == "--self-test") { exit((unseen > 0) as i32); }
     let t = run(None, None);
-    finish(&t, (unseen > 0).then_some("a wrong model NOT SEEN"));
+    let few = t.met.report();
+    finish(&t, [(few, "a class EMPTY or TOO FEW"), (unseen > 0, "a wrong model NOT SEEN")].into_iter().find(|x| x.0).map(|x| x.1));
 }
 /// The last line of a run; any difference comes before any other fault.
 fn finish(t: &Tally, fault: Option<&str>) {
