@@ -32,7 +32,7 @@ fn tie(form: &Form, job: Job, m: u64) -> bool {
 const TENS: [f64; 23] = [
     1e0, 1e1, 1e2, 1e3, 1e4, 1e5, 1e6, 1e7, 1e8, 1e9, 1e10, 1e11, 1e12, 1e13, 1e14, 1e15, 1e16, 1e17, 1e18, 1e19, 1e20, 1e21, 1e22,
 ];
-fn ten(form: &Form, m: u64) -> bool { TENS.contains(&if form.f == 23 { f32::from_bits(m as u32) as f64 } else { f64::from_bits(m) }) }
+pub fn ten(form: &Form, m: u64) -> bool { TENS.contains(&if form.f == 23 { f32::from_bits(m as u32) as f64 } else { f64::from_bits(m) }) }
 
 type Counts = [[[u64; 8]; 8]; 3]; // by call, then by method or by what is counted of marks, then by column
 pub struct Met {

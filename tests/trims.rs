@@ -65,8 +65,8 @@ struct Plain { here: Vec<(u64, bool)>, other: Vec<(u64, bool)> }
 impl Plain {
     fn of(model: &Model, job: Job, readings: &[u64]) -> Plain {
         let refused = model.form.refusal(job.method, job.setting) != 0;
-        let odd = |i: usize, flip: bool| (i % 2 == 1) != (flip != model.is(Rule::Parity));
-        let trim = |i, x, flip| if refused { (x, false) } else { model.form.trim(job.method, job.setting, x, odd(i, flip)) };
+        let own = |i: usize, x, flip: bool| model.trim(job.method, job.setting, x, (i % 2 == 1) != flip);
+        let trim = |i, x, flip| if refused { (x, false) } else { own(i, x, flip) };
         let all = |flip| readings.iter().enumerate().map(|(i, &x)| trim(i, x, flip)).collect();
         let here: Vec<(u64, bool)> = all(false);
         let other = if job.method == 2 { all(true) } else { here.clone() }; // only groom asks for the place

@@ -1,4 +1,5 @@
 //! The trims' model with no rule or one rule turned, and the test of the trims' test: it must see every wrong model.
+use crate::met::ten;
 use crate::model::{left, Form, Slip};
 
 pub const CALLS: [&str; 3] = ["trim_singles", "trim_doubles", "trim_single"];
@@ -12,8 +13,8 @@ pub fn named(row: usize) -> String { if row == 7 { "unknown".to_string() } else 
 /// A rule that can be turned.
 #[derive(Clone, Copy, PartialEq)]
 pub enum Rule {
-    Trim(Slip), NotSpared, SparedChanged, SparedClipped, MissingTrimmed, ByValue, ZerosAlike, NansAlike, Parity, PresentPlaces,
-    Count(usize), RefusedWrites, RefusedCounts, RefusalAlone, Order21, Range(i32, i32),
+    Trim(Slip), TenBelow, Quieted, Finite, NotSpared, SparedChanged, SparedClipped, MissingTrimmed, ByValue, ZerosAlike, NansAlike,
+    Parity, PresentPlaces, Count(usize), RefusedWrites, RefusedCounts, RefusalAlone, Order21, Range(i32, i32),
 }
 use Rule::*;
 
@@ -22,16 +23,19 @@ const WITH_UNKNOWN: &[usize] = &[0, 1, 2, 3, 4, 5, 6, 7];
 /// Each rule, the methods by which an array call can show it, and those by which the loader's call can. The loader's call has no counts and
 /// no array. By it a zero or a NaN looks the same whether it is missing or stays, so a zero that passes for the mark shows only where a
 /// method makes a zero of something else, and a NaN that does so never.
-const TURNED: [(Rule, &str, &[usize], &[usize]); 30] = [
+const TURNED: [(Rule, &str, &[usize], &[usize]); 33] = [
     (Trim(Slip::TieUp), "a tie goes up", &[4, 5], &[4, 5]),
     (Trim(Slip::Overflow), "round passes the largest finite pattern", &[4], &[4]),
     (Trim(Slip::ClipToTop), "a clipped reading becomes the largest finite pattern", &[4, 5], &[4, 5]),
     (Trim(Slip::ZeroTail), "set and halfshave give a zero a tail", &[1, 2, 3], &[1, 2, 3]),
     (Trim(Slip::ZeroSign), "absolute takes the sign from a zero result", &[5], &[5]),
-    (Trim(Slip::DecadeBelow), "a power of ten stands in the decade below", &[6], &[6]),
+    (Trim(Slip::DecadeBelow), "a decade begins after its least whole size", &[6], &[6]),
     (Trim(Slip::TwoSpacingsStay), "digits leaves a reading where q is two spacings", &[6], &[6]),
     (Trim(Slip::NanTail), "the tail of a NaN is trimmed", &[0, 1, 2, 3], &[0, 1, 2, 3]),
     (Trim(Slip::Flush), "subnormal readings become zero", ALL, ALL),
+    (TenBelow, "a reading that is a power of ten stands in the decade below", &[6], &[6]),
+    (Quieted, "a NaN is quieted", ALL, ALL),
+    (Finite, "an infinity becomes the largest finite pattern", ALL, ALL),
     (NotSpared, "nothing is spared", ALL, ALL),
     (SparedChanged, "a spared reading counts as changed", ALL, &[]),
     (SparedClipped, "a spared reading counts as clipped too", &[4, 5], &[]),
@@ -64,6 +68,17 @@ impl Model {
         self
     }
     pub fn is(&self, rule: Rule) -> bool { self.turned == Some(rule) }
+    /// What the method makes of a reading that isn't the mark, before sparing, and whether it was clipped.
+    pub fn trim(&self, method: u32, setting: i32, reading: u64, odd: bool) -> (u64, bool) {
+        let (form, m) = (&self.form, reading % self.form.sign);
+        match self.turned {
+            // Only the decade less the digits matters.
+            Some(TenBelow) if method == 6 && ten(form, m) => form.trim(method, setting + 1, reading, odd),
+            Some(Quieted) if m > form.infinity => (reading | 1 << (form.f - 1), false),
+            Some(Finite) if m == form.infinity => (reading - 1, false),
+            _ => form.trim(method, setting, reading, odd != self.is(Parity)),
+        }
+    }
     pub fn refusal(&self, method: u32, setting: i32) -> u32 {
         let (least, most) = self.form.range(method);
         let inside = |least, most| (least..=most).contains(&setting);
