@@ -1,15 +1,22 @@
 #!/usr/bin/env python3
-"""Checks docs/TRACE.md: what a cell refers to must exist.
+"""Checks docs/TRACE.md and docs/PAPERS.md: what they refer to must exist.
 
-A row is `| clause | definition | contract or theorem | must-fail edit | test |`. Each cell after the first is empty, which is a gap, or holds
-references in backticks, parted by a space or <br>, and nothing else. A reference is `path` or `path#identifier`, with the path from
-the repository's root. The identifier must be declared in an .antt or .rt file; in any other file the text must occur."""
+A row of the trace is `| clause | definition | contract or theorem | must-fail edit | test |`. Each cell after the first holds references in
+backticks, parted by a space or <br>, and nothing else; under must-fail edit these are .edit files. Where nothing stands, the cell holds one
+key, `docs/DECISIONS.md#gap: KEY`, and the entry there begins with **gap: KEY.** An empty cell is a fault, and so is an entry that no cell names.
+
+A reference is `path` or `path#identifier`, with the path from the repository's root. The identifier must be declared in an .antt or .rt file;
+in any other file the text must occur. In docs/PAPERS.md every `file.antt#name` is such a reference, with the path from crates/papers/specs,
+and for PROVED from crates/papers/proofs, where it doesn't begin with crates/."""
 import re
 import sys
 from pathlib import Path
 
 ROOT = Path(__file__).resolve().parent.parent
 TABLE = ROOT / "docs" / "TRACE.md"
+PAPERS = ROOT / "docs" / "PAPERS.md"
+PROVED = "Papers.antt#papers"
+GAP = "docs/DECISIONS.md#gap: "
 COLUMNS = ["definition", "contract or theorem", "must-fail edit", "test"]
 RESERVED = {"let", "in", "use", "module", "where", "record", "data", "open"}
 
@@ -52,37 +59,63 @@ def fault(reference):
     return None if identifier and identifier in text else "the text does not occur there"
 
 
-def main():
-    sys.stdout.reconfigure(encoding="utf8")
-    if not TABLE.is_file():
-        sys.exit("trace: there is no docs/TRACE.md")
-    rows = references = missing = 0
-    gaps = dict.fromkeys(COLUMNS, 0)
+def rows():
+    """The trace's rows, each with its line's number and its cells."""
     for number, line in enumerate(TABLE.read_text(encoding="utf8").splitlines(), 1):
         line = line.strip()
         cells = [cell.strip() for cell in re.split(r"(?<!\\)\|", line)[1:-1]]
-        if not line.startswith("|") or cells[1:] == COLUMNS or set(line) <= set("|-: "):
-            continue
-        rows += 1
+        if line.startswith("|") and cells[1:] != COLUMNS and not set(line) <= set("|-: "):
+            yield number, cells
+
+
+def papers():
+    """The references of docs/PAPERS.md, each with its path from the root."""
+    for name in re.findall(r"`([^`\s]+\.antt#[^`]+)`", PAPERS.read_text(encoding="utf8")):
+        folder = "proofs" if name == PROVED else "specs"
+        yield name if name.startswith("crates/") else f"crates/papers/{folder}/{name}"
+
+
+def main():
+    sys.stdout.reconfigure(encoding="utf8")
+    faults = []
+    count = references = 0
+    decided = re.findall(r"\*\*gap: ([^.*]+)\.\*\*", (ROOT / "docs" / "DECISIONS.md").read_text(encoding="utf8"))
+    gaps = dict.fromkeys(decided, 0)
+    for number, cells in rows():
+        count += 1
         if len(cells) != 5:
-            missing += 1
-            print(f"docs/TRACE.md:{number}: {len(cells)} cells in this row, and not 5")
+            faults.append(f"docs/TRACE.md:{number}: {len(cells)} cells in this row, and not 5")
             continue
         for column, cell in zip(COLUMNS, cells[1:]):
-            gaps[column] += cell == ""
+            at = f"docs/TRACE.md:{number}: {column}"
             found = re.findall(r"`([^`]*)`", cell)
-            faults = [(text, fault(text)) for text in found]
             rest = re.sub(r"`[^`]*`|<br>|\s", "", cell)
             if rest:
-                faults.append((rest, "not a reference in backticks"))
-            references += len(found)
-            for text, why in faults:
-                if why:
-                    missing += 1
-                    print(f"docs/TRACE.md:{number}: {text}: {why}")
-    print(f"trace: {rows} rows, {sum(gaps.values())} empty cells:", ", ".join(f"{n} {column}" for column, n in gaps.items()))
-    print(f"trace: {references} references, {missing} missing")
-    sys.exit(1 if missing or not references else 0)
+                faults.append(f"{at}: {rest}: not a reference in backticks")
+            if not found:
+                faults.append(f"{at}: the cell is empty")
+            elif len(found) == 1 and found[0].startswith(GAP):
+                key = found[0][len(GAP):]
+                if key in gaps:
+                    gaps[key] += 1
+                else:
+                    faults.append(f"{at}: {key}: no decision has this key")
+            else:
+                references += len(found)
+                faults += [f"{at}: {text}: {why}" for text in found if (why := fault(text))]
+                faults += [f"{at}: {text}: a key stands alone" for text in found if text.startswith(GAP)]
+                if column == COLUMNS[2]:
+                    faults += [f"{at}: {text}: not an edit" for text in found if not text.endswith(".edit")]
+    faults += [f"docs/DECISIONS.md: gap: {key}: no cell names it" for key, cells in gaps.items() if cells == 0]
+    claims = list(papers())
+    faults += [f"docs/PAPERS.md: {text}: {why}" for text in claims if (why := fault(text))]
+    for line in faults:
+        print(line)
+    print(f"trace: {count} rows, {references} references")
+    print(f"trace: {sum(gaps.values())} cells with a decision:", ", ".join(f"{n} {key}" for key, n in gaps.items()))
+    print(f"trace: {len(claims)} references in docs/PAPERS.md")
+    print(f"trace: {len(faults)} faults")
+    sys.exit(1 if faults or not references or not claims else 0)
 
 
 main()
