@@ -378,7 +378,7 @@ fn slips_by_two_calls(tally: &mut [u64; 2]) {
     );
     single(
         tally,
-        b"002, digits 1 of 100; 100 gives 96",
+        b"01 slips, digits; 100 gives 96",
         DIGITS,
         1,
         0x42C80000,
@@ -386,7 +386,7 @@ fn slips_by_two_calls(tally: &mut [u64; 2]) {
     );
     single(
         tally,
-        b"002, digits 1 of 96; and 96 gives 100, for ever",
+        b"01 slips, digits; and 96 gives 100, for ever",
         DIGITS,
         1,
         0x42C00000,
@@ -394,7 +394,7 @@ fn slips_by_two_calls(tally: &mut [u64; 2]) {
     );
     twice(
         tally,
-        b"002, digits 1 of 100",
+        b"01 slips, digits",
         DIGITS,
         1,
         DIGITS,
