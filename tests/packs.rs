@@ -81,6 +81,11 @@ struct Tally {
     met: BTreeMap<String, u64>,
 }
 impl Tally {
+    /// For a run that ends after so many differences.
+    fn new(most: u32) -> Tally {
+        let (compared, met) = (BTreeMap::new(), BTreeMap::new());
+        Tally { seed: 0x9E3779B97F4A7C15, most, differences: 0, first: String::new(), compared, met }
+    }
     fn over(&self) -> bool { self.differences >= self.most }
     fn differs(&mut self, told: String) {
         self.differences += 1;
@@ -968,9 +973,7 @@ fn marked_cases(t: &mut Tally, model: &Model) {
 
 /// Everything, in rounds that differ by the seed.
 fn run(turned: Option<Rule>) -> Tally {
-    let most = if turned.is_some() { 1 } else { 10 };
-    let (compared, met) = (BTreeMap::new(), BTreeMap::new());
-    let mut tally = Tally { seed: 0x9E3779B97F4A7C15, most, differences: 0, first: String::new(), compared, met };
+    let mut tally = Tally::new(if turned.is_some() { 1 } else { 10 });
     let (t, model) = (&mut tally, &Model::new(turned));
     marked_cases(t, model);
     for round in 0..ROUNDS {
@@ -1056,16 +1059,24 @@ fn report(t: &Tally) -> bool {
     empty
 }
 
+/// Says whether a run with a wrong model or claim saw it. Answers whether it did not.
+fn unseen(t: &Tally, name: &str) -> bool {
+    let compared: u64 = t.compared.values().map(|x| x[1]).sum();
+    let seen: String = t.first.chars().take(180).collect();
+    println!("turned, {name}: {}", if t.differences == 0 { "NOT SEEN".to_string() } else { format!("seen after {compared}: {seen}") });
+    t.differences == 0
+}
+/// Turns each rule and each claim. Answers how many were not seen.
+fn self_test() -> usize {
+    let mut not_seen = vec![];
+    for (rule, name) in TURNED { not_seen.push(unseen(&run(Some(rule)), name)); }
+    let count = not_seen.iter().filter(|x| **x).count();
+    println!("self-test: {} wrong models or claims, {count} not seen", not_seen.len());
+    count
+}
+
 fn main() {
-    let mut unseen = 0;
-    for (rule, name) in TURNED {
-        let t = run(Some(rule));
-        let compared: u64 = t.compared.values().map(|x| x[1]).sum();
-        unseen += (t.differences == 0) as u32;
-        let seen: String = t.first.chars().take(90).collect();
-        println!("turned, {name}: {}", if t.differences == 0 { "NOT SEEN".to_string() } else { format!("seen after {compared}: {seen}") });
-    }
-    println!("self-test: {} wrong models or claims, {unseen} not seen", TURNED.len());
+    let unseen = self_test();
     if std::env::args().any(|x| x == "--self-test") { exit((unseen > 0) as i32); }
     let t = run(None);
     let empty = report(&t);
