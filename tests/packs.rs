@@ -1,10 +1,13 @@
 //! Compares packing and unpacking of the C interface with a model of document 01 in exact whole numbers, and checks demand 3 on
-//! what lists of trims and a packing really left.
+//! what lists of trims and a packing really left; lists.rs does so without packing, in both widths.
 //!
 //! The model knows nothing of the library. Where the machine's own floats can give the same answer exactly, they are asked too.
 //! Every run makes the same comparisons. It first turns one rule of the model, or one claim, at a time: each such wrong model
 //! must differ from the library. With --self-test it ends there.
+mod lists;
+mod model;
 mod nat;
+use lists::Width;
 use nat::{goes_up, Nat};
 use std::cmp::Ordering;
 use std::collections::BTreeMap;
@@ -1026,13 +1029,13 @@ const WANTED: [&str; 43] = [
 ];
 
 /// Prints what was compared and met. Answers whether a class is empty.
-fn report(t: &Tally) -> bool {
+fn report(t: &Tally, widths: &[Width]) -> bool {
     let mut empty = false;
     println!("\n{:<36} {:>6} {:>9} {:>12}", "call", "answer", "calls", "comparisons");
     let pack = [0, 3, 4, 5, 6].map(|q| ("pack", q));
     let unpack = [0, 3, 4, 5, 7, 8].map(|q| ("unpack", q));
     let others = [("trims of a list", 0), ("trims of a list", 1), ("trims of a list", 2), ("demand 3", 0), ("marked cases", 0)];
-    for class in pack.into_iter().chain(unpack).chain(others) {
+    for class in pack.into_iter().chain(unpack).chain(others).chain(widths.iter().flat_map(lists::classes)) {
         let [calls, compared] = t.compared.get(&class).copied().unwrap_or_default();
         empty |= calls == 0 || compared == 0;
         println!("{:<36} {:>6} {calls:>9} {compared:>12}{}", class.0, class.1, if calls == 0 { " EMPTY" } else { "" });
@@ -1050,6 +1053,7 @@ fn report(t: &Tally) -> bool {
             wanted.extend(asked[i + 1..].iter().map(|b| (format!("{call} that breaks {a} and {b}"), 1)));
         }
     }
+    wanted.extend(widths.iter().flat_map(lists::wanted));
     println!("\n{:<58} {:>9}", "met", "times");
     for (what, least) in wanted {
         let times = t.met.get(&what).copied().unwrap_or(0);
@@ -1067,19 +1071,28 @@ fn unseen(t: &Tally, name: &str) -> bool {
     t.differences == 0
 }
 /// Turns each rule and each claim. Answers how many were not seen.
-fn self_test() -> usize {
+fn self_test(widths: &[Width]) -> usize {
     let mut not_seen = vec![];
     for (rule, name) in TURNED { not_seen.push(unseen(&run(Some(rule)), name)); }
+    for width in widths {
+        for (wrong, name) in lists::WRONG {
+            let mut t = Tally::new(1);
+            lists::run(&mut t, width, Some(wrong));
+            not_seen.push(unseen(&t, &format!("{}, claim: {name}", width.name)));
+        }
+    }
     let count = not_seen.iter().filter(|x| **x).count();
     println!("self-test: {} wrong models or claims, {count} not seen", not_seen.len());
     count
 }
 
 fn main() {
-    let unseen = self_test();
+    let widths = Width::both();
+    let unseen = self_test(&widths);
     if std::env::args().any(|x| x == "--self-test") { exit((unseen > 0) as i32); }
-    let t = run(None);
-    let empty = report(&t);
+    let mut t = run(None);
+    widths.iter().for_each(|width| lists::run(&mut t, width, None));
+    let empty = report(&t, &widths);
     let compared: u64 = t.compared.values().map(|x| x[1]).sum();
     let found = [(t.differences > 0, "DIFFERENCES"), (empty, "a class with TOO FEW"), (unseen > 0, "a wrong model NOT SEEN")];
     let fault = found.into_iter().find(|x| x.0).map(|x| x.1);
