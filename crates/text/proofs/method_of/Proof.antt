@@ -9,98 +9,76 @@ use Rattle.text.proofs.method_of.Reads as reads
 use Rattle.text.proofs.method_of.Lts as lts
 use Rattle.text.proofs.word_is.Reads as word-is-reads
 
--- src/lib.rt:443:26
 slice-aggregate-word-is : tie.Need-slice-aggregate-word-is
 slice-aggregate-word-is c = search needs
 
--- src/lib.rt:443:8
 word-is-requires : tie.Need-word-is-requires
 word-is-requires c κs = search needs
 
--- src/lib.rt:444:9
 returns : tie.Need-returns
 unfolding methodNumber methodWords bytes
 returns c = sym (place-here _ _ _ (sym (c .if1 .taken) ∙ c .before .word-is .ensures))
 
--- src/lib.rt:446:26
 slice-aggregate-word-is-2 : tie.Need-slice-aggregate-word-is-2
 slice-aggregate-word-is-2 c = search needs
 
--- src/lib.rt:446:8
 word-is-requires-2 : tie.Need-word-is-requires-2
 word-is-requires-2 c κs = search needs
 
--- src/lib.rt:447:9
 returns-2 : tie.Need-returns-2
 unfolding methodNumber methodWords bytes
 returns-2 c = sym (place-later _ _ _ _ (sym (c .before .before .before .if1 .left) ∙ c .before .before .before .before .word-is .ensures) (place-here _ _ _ (sym (c .if2 .taken) ∙ c .before .word-is2 .ensures)))
 
--- src/lib.rt:449:26
 slice-aggregate-word-is-3 : tie.Need-slice-aggregate-word-is-3
 slice-aggregate-word-is-3 c = search needs
 
--- src/lib.rt:449:8
 word-is-requires-3 : tie.Need-word-is-requires-3
 word-is-requires-3 c κs = search needs
 
--- src/lib.rt:450:9
 returns-3 : tie.Need-returns-3
 unfolding methodNumber methodWords bytes
 returns-3 c = sym (place-later _ _ _ _ (sym (c .before .before .before .before .before .before .if1 .left) ∙ c .before .before .before .before .before .before .before .word-is .ensures) (place-later _ _ _ _ (sym (c .before .before .before .if2 .left) ∙ c .before .before .before .before .word-is2 .ensures) (place-here _ _ _ (sym (c .if3 .taken) ∙ c .before .word-is3 .ensures))))
 
--- src/lib.rt:452:26
 slice-aggregate-word-is-4 : tie.Need-slice-aggregate-word-is-4
 slice-aggregate-word-is-4 c = search needs
 
--- src/lib.rt:452:8
 word-is-requires-4 : tie.Need-word-is-requires-4
 word-is-requires-4 c κs = search needs
 
--- src/lib.rt:453:9
 returns-4 : tie.Need-returns-4
 unfolding methodNumber methodWords bytes
 returns-4 c = sym (place-later _ _ _ _ (sym (c .before .before .before .before .before .before .before .before .before .if1 .left) ∙ c .before .before .before .before .before .before .before .before .before .before .word-is .ensures) (place-later _ _ _ _ (sym (c .before .before .before .before .before .before .if2 .left) ∙ c .before .before .before .before .before .before .before .word-is2 .ensures) (place-later _ _ _ _ (sym (c .before .before .before .if3 .left) ∙ c .before .before .before .before .word-is3 .ensures) (place-here _ _ _ (sym (c .if4 .taken) ∙ c .before .word-is4 .ensures)))))
 
--- src/lib.rt:455:26
 slice-aggregate-word-is-5 : tie.Need-slice-aggregate-word-is-5
 slice-aggregate-word-is-5 c = search needs
 
--- src/lib.rt:455:8
 word-is-requires-5 : tie.Need-word-is-requires-5
 word-is-requires-5 c κs = search needs
 
--- src/lib.rt:456:9
 returns-5 : tie.Need-returns-5
 unfolding methodNumber methodWords bytes
 returns-5 c = sym (place-later _ _ _ _ (sym (c .before .before .before .before .before .before .before .before .before .before .before .before .if1 .left) ∙ c .before .before .before .before .before .before .before .before .before .before .before .before .before .word-is .ensures) (place-later _ _ _ _ (sym (c .before .before .before .before .before .before .before .before .before .if2 .left) ∙ c .before .before .before .before .before .before .before .before .before .before .word-is2 .ensures) (place-later _ _ _ _ (sym (c .before .before .before .before .before .before .if3 .left) ∙ c .before .before .before .before .before .before .before .word-is3 .ensures) (place-later _ _ _ _ (sym (c .before .before .before .if4 .left) ∙ c .before .before .before .before .word-is4 .ensures) (place-here _ _ _ (sym (c .if5 .taken) ∙ c .before .word-is5 .ensures))))))
 
--- src/lib.rt:458:26
 slice-aggregate-word-is-6 : tie.Need-slice-aggregate-word-is-6
 slice-aggregate-word-is-6 c = search needs
 
--- src/lib.rt:458:8
 word-is-requires-6 : tie.Need-word-is-requires-6
 word-is-requires-6 c κs = search needs
 
--- src/lib.rt:459:9
 returns-6 : tie.Need-returns-6
 unfolding methodNumber methodWords bytes
 returns-6 c = sym (place-later _ _ _ _ (sym (c .before .before .before .before .before .before .before .before .before .before .before .before .before .before .before .if1 .left) ∙ c .before .before .before .before .before .before .before .before .before .before .before .before .before .before .before .before .word-is .ensures) (place-later _ _ _ _ (sym (c .before .before .before .before .before .before .before .before .before .before .before .before .if2 .left) ∙ c .before .before .before .before .before .before .before .before .before .before .before .before .before .word-is2 .ensures) (place-later _ _ _ _ (sym (c .before .before .before .before .before .before .before .before .before .if3 .left) ∙ c .before .before .before .before .before .before .before .before .before .before .word-is3 .ensures) (place-later _ _ _ _ (sym (c .before .before .before .before .before .before .if4 .left) ∙ c .before .before .before .before .before .before .before .word-is4 .ensures) (place-later _ _ _ _ (sym (c .before .before .before .if5 .left) ∙ c .before .before .before .before .word-is5 .ensures) (place-here _ _ _ (sym (c .if6 .taken) ∙ c .before .word-is6 .ensures)))))))
 
--- src/lib.rt:461:26
 slice-aggregate-word-is-7 : tie.Need-slice-aggregate-word-is-7
 slice-aggregate-word-is-7 c = search needs
 
--- src/lib.rt:461:8
 word-is-requires-7 : tie.Need-word-is-requires-7
 word-is-requires-7 c κs = search needs
 
--- src/lib.rt:462:9
 returns-7 : tie.Need-returns-7
 unfolding methodNumber methodWords bytes
 returns-7 c = sym (place-later _ _ _ _ (sym (c .before .before .before .before .before .before .before .before .before .before .before .before .before .before .before .before .before .before .if1 .left) ∙ c .before .before .before .before .before .before .before .before .before .before .before .before .before .before .before .before .before .before .before .word-is .ensures) (place-later _ _ _ _ (sym (c .before .before .before .before .before .before .before .before .before .before .before .before .before .before .before .if2 .left) ∙ c .before .before .before .before .before .before .before .before .before .before .before .before .before .before .before .before .word-is2 .ensures) (place-later _ _ _ _ (sym (c .before .before .before .before .before .before .before .before .before .before .before .before .if3 .left) ∙ c .before .before .before .before .before .before .before .before .before .before .before .before .before .word-is3 .ensures) (place-later _ _ _ _ (sym (c .before .before .before .before .before .before .before .before .before .if4 .left) ∙ c .before .before .before .before .before .before .before .before .before .before .word-is4 .ensures) (place-later _ _ _ _ (sym (c .before .before .before .before .before .before .if5 .left) ∙ c .before .before .before .before .before .before .before .word-is5 .ensures) (place-later _ _ _ _ (sym (c .before .before .before .if6 .left) ∙ c .before .before .before .before .word-is6 .ensures) (place-here _ _ _ (sym (c .if7 .taken) ∙ c .before .word-is7 .ensures))))))))
 
--- src/lib.rt:439:1
 returns-8 : tie.Need-returns-8
 unfolding methodNumber methodWords bytes
 returns-8 c = sym (place-later _ _ _ _ (sym (c .before .before .before .before .before .before .before .before .before .before .before .before .before .before .before .before .before .before .if1 .left) ∙ c .before .before .before .before .before .before .before .before .before .before .before .before .before .before .before .before .before .before .before .word-is .ensures) (place-later _ _ _ _ (sym (c .before .before .before .before .before .before .before .before .before .before .before .before .before .before .before .if2 .left) ∙ c .before .before .before .before .before .before .before .before .before .before .before .before .before .before .before .before .word-is2 .ensures) (place-later _ _ _ _ (sym (c .before .before .before .before .before .before .before .before .before .before .before .before .if3 .left) ∙ c .before .before .before .before .before .before .before .before .before .before .before .before .before .word-is3 .ensures) (place-later _ _ _ _ (sym (c .before .before .before .before .before .before .before .before .before .if4 .left) ∙ c .before .before .before .before .before .before .before .before .before .before .word-is4 .ensures) (place-later _ _ _ _ (sym (c .before .before .before .before .before .before .if5 .left) ∙ c .before .before .before .before .before .before .before .word-is5 .ensures) (place-later _ _ _ _ (sym (c .before .before .before .if6 .left) ∙ c .before .before .before .before .word-is6 .ensures) (place-later _ _ _ _ (sym (c .if7 .left) ∙ c .before .word-is7 .ensures) (place-none _))))))))
