@@ -7,8 +7,8 @@ use lib.ListN.{length}
 use Rattle.meaning.specs.Calls.{leaving}
 use Rattle.form.specs.Form.{line}
 use Rattle.form.specs.Output.{countsLine, decimal}
-use Rattle.text.specs.Places.{paste}
-use Rattle.text.proofs.Walk.{paste-none}
+use Rattle.text_out.specs.Places.{paste}
+use Rattle.text_out.proofs.Paste.{paste-none}
 use Rattle.trim.specs.declared.Answer.{Answer}
 use Rattle.trim.specs.declared.Answer.the-variants as variants
 use Rattle.trim.specs.Answers.{answerOf}

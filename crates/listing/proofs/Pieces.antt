@@ -7,8 +7,9 @@ use mathlib.Core.List.{List, _++_, append-assoc}
 use lib.ListN.{length}
 use Rattle.form.specs.Form.{bytes, valueLines}
 use Rattle.form.specs.Output.{columns}
-use Rattle.text.specs.Places.{areaSeries, paste}
-use Rattle.text.proofs.LaidLaws.{Laid, laid-more, laid-long, area-short}
+use Rattle.text_in.specs.Places.{areaSeries}
+use Rattle.text_out.specs.Places.{paste}
+use Rattle.text_out.proofs.LaidLaws.{Laid, laid-more, laid-long, area-short}
 use Rattle.listing.specs.Jobs.{pieces}
 
 -- w was laid over l from p on, which gave m, and q is the place after it

@@ -16,10 +16,11 @@ use Rattle.meaning.specs.Calls.{AfterTrim, answering, leaving, trim, trimSingle
 use Rattle.form.specs.Form.{line}
 use Rattle.form.specs.Output.{upTo, decimal, countsLine, countsLines}
 use Rattle.parts.proofs.Back.{back, length-back, back-own, back-before, back-after}
-use Rattle.text.specs.Places.{areaSeries, paste}
-use Rattle.text.proofs.Walk.{paste-none}
-use Rattle.text.proofs.FieldLaws.{decimal-short}
-use Rattle.text.proofs.LaidLaws.{Laid, laid-more, laid-long}
+use Rattle.text_in.specs.Places.{areaSeries}
+use Rattle.text_out.specs.Places.{paste}
+use Rattle.text_out.proofs.Paste.{paste-none}
+use Rattle.text_out.proofs.FieldLaws.{decimal-short}
+use Rattle.text_out.proofs.LaidLaws.{Laid, laid-more, laid-long}
 use Rattle.trim.specs.declared.Answer.{Answer}
 use Rattle.trim.specs.Answers.{answerOf}
 use Rattle.listing.specs.Jobs.{areaTrimmed, leftReadings, Small}

@@ -15,9 +15,10 @@ use Rattle.form.specs.Form.{Job, All, Run, Valid, isLetter, line, after, bytes,
 use Rattle.form.specs.Parse.{Got}
 use Rattle.form.specs.Output.{methodNumber, columns, countsLines, trimmedSeries, output, printed, jobMethod, jobSetting, jobOutcome, readOutcome, listed}
 use Rattle.form.proofs.Reading.{sound}
-use Rattle.text.specs.declared.Reading.{Reading}
-use Rattle.text.specs.declared.Reading.the-variants.{Good, Wrong}
-use Rattle.text.specs.Places.{TextAt, TextRead, areaSeries, paste}
+use Rattle.text_in.specs.declared.Reading.{Reading}
+use Rattle.text_in.specs.declared.Reading.the-variants.{Good, Wrong}
+use Rattle.text_in.specs.Places.{TextAt, TextRead, areaSeries}
+use Rattle.text_out.specs.Places.{paste}
 use Rattle.asking.specs.Asked.{refusalOf}
 use Rattle.asking.proofs.Questions.{accepted-is, refused-is}
 use Rattle.listing.specs.Jobs.{areaTrimmed, leftReadings, pieces}

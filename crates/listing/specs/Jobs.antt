@@ -7,7 +7,7 @@ use Rattle.meaning.specs.Questions.{Outcome, refused, accepted}
 use Rattle.meaning.specs.Calls.{AfterTrim, trimSingles}
 use Rattle.form.specs.Form.{bytes, valueLines}
 use Rattle.form.specs.Output.{columns}
-use Rattle.text.specs.Places.{areaSeries}
+use Rattle.text_in.specs.Places.{areaSeries}
 
 -- each of n series of m readings in the work area w, trimmed as one array
 abbrev pub areaTrimmed : List ℕ → ℕ → ℕ → ℕ → ℤ → ℕ → List AfterTrim

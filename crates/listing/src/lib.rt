@@ -5,7 +5,8 @@ ghost use Prim.Native.Nat.{_+_, _*_, _≤_};
 ghost use lib.ListN.{length};
 ghost use Rattle.meaning.specs.Calls.{leaving};
 ghost use Rattle.form.specs.Output.{countsLine, countsLines, listed};
-ghost use Rattle.text.specs.Places.{areaSeries, paste};
+ghost use Rattle.text_in.specs.Places.{areaSeries};
+ghost use Rattle.text_out.specs.Places.{paste};
 ghost use Rattle.trim.specs.Answers.{answerOf};
 ghost use Rattle.listing.specs.Jobs.{areaTrimmed, leftReadings, Small, pieces};
 
@@ -22,7 +23,7 @@ fn put_answer(out: &mut [u8], at: usize, answer: trim::Answer) -> usize
             spared,
             clipped,
             missing,
-        } => text::put_counts(
+        } => text_out::put_counts(
             out,
             at,
             changed as usize,
@@ -77,10 +78,10 @@ fn put_output(
     ensures { λ r. ⌜ r ≡ length (pieces (now (names .entry)) (now (work .entry)) count lines (now (counts .entry))) ⌝ }
     ensures { λ _. ⌜ now (out .exit) ≡ paste (now (out .entry)) 0 (pieces (now (names .entry)) (now (work .entry)) count lines (now (counts .entry))) ⌝ }
 {
-    let p = text::put_bytes(out, 0, names);
-    let q = text::put_lines(out, p, count, lines, work);
-    let r = text::put_bytes(out, q, b"changed,spared,clipped,missing\n");
-    text::put_bytes(out, r, counts)
+    let p = text_out::put_bytes(out, 0, names);
+    let q = text_out::put_lines(out, p, count, lines, work);
+    let r = text_out::put_bytes(out, q, b"changed,spared,clipped,missing\n");
+    text_out::put_bytes(out, r, counts)
 }
 
 // What trimlist prints for a text goes to the start of `out`; answers how many bytes it has. The longest has some 37,000, so every answer has room.
@@ -89,9 +90,9 @@ pub fn listing(input: &[u8], out: &mut [u8; 65536]) -> usize
     ensures content { λ _. ⌜ now (out .exit) ≡ paste (now (out .entry)) 0 (listed (now (input .entry))) ⌝ }
 {
     let mut work = [0u32; 4096];
-    let read = text::read_text(input, &mut work);
+    let read = text_in::read_text(input, &mut work);
     match read {
-        text::Reading::Good {
+        text_in::Reading::Good {
             letters,
             setting,
             mark,
@@ -100,15 +101,15 @@ pub fn listing(input: &[u8], out: &mut [u8; 65536]) -> usize
             count,
             lines,
         } => {
-            let method = text::method_of(input, 20, letters);
+            let method = text_in::method_of(input, 20, letters);
             let asked = asking::ask_single(method, setting);
             if asked.refusal != 0 {
-                return text::put_refusal(out, asked.refusal as usize);
+                return text_out::put_refusal(out, asked.refusal as usize);
             }
             let mut counts = [0u8; 128];
             let n = trim_series(&mut work, count, lines, method, setting, mark, &mut counts);
             put_output(out, &input[names..first], &work, count, lines, &counts[..n])
         }
-        text::Reading::Wrong => text::put_refusal(out, 9),
+        text_in::Reading::Wrong => text_out::put_refusal(out, 9),
     }
 }

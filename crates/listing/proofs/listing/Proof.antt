@@ -3,7 +3,7 @@ use mathlib.Core.Path.{sym, ap, _∙_}
 use mir.Facts.{toZ-ofZ}
 use lib.ListN.{length}
 use lib.Seq.{length-take-le}
-use Rattle.text.specs.Places.{paste}
+use Rattle.text_out.specs.Places.{paste}
 use Rattle.listing.proofs.Whole.{wrong-listed, text-at, counts-few, few-series, few-lines, names-short, refusal-small, refused-listed, accepted-listed}
 use Rattle.listing.proofs.listing.Statement.{statement}
 use Rattle.listing.proofs.listing.Tie as tie

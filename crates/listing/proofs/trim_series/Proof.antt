@@ -4,7 +4,7 @@ use mir.Facts.{toZ-ofZ}
 use mir.Val.{toZ}
 use mir.Syntax.{w32}
 use Prim.Native.Nat.{_+_, _-_, _*_}
-use Rattle.text.proofs.LaidLaws.{laid-long}
+use Rattle.text_out.proofs.LaidLaws.{laid-long}
 use Rattle.listing.proofs.Series.{SeriesTurn, series-start, series-room, answer-room, part-small, part-turn, series-done}
 use Rattle.listing.proofs.trim_series.Statement.{statement}
 use Rattle.listing.proofs.trim_series.Tie as tie

@@ -1,0 +1,2 @@
+-- What the answers of the readers say of a text.
+pub mod Places

@@ -1,0 +1,2 @@
+-- What the writers lay over a slice.
+pub mod Places
