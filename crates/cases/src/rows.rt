@@ -56,7 +56,7 @@ fn hex(s: &[u8]) -> u64 {
     let mut v: u64 = 0;
     let mut i: usize = 0;
     while i < s.len() {
-        v = v % 0x1000_0000_0000_0000 * 16 + (text::digit(s[i]) % 16) as u64;
+        v = v % 0x1000_0000_0000_0000 * 16 + (text_in::digit(s[i]) % 16) as u64;
         i += 1;
     }
     v
@@ -67,7 +67,7 @@ fn decimal(s: &[u8]) -> u64 {
     let mut v: u64 = 0;
     let mut i: usize = 0;
     while i < s.len() {
-        v = v % 1_000_000_000 * 10 + (text::digit(s[i]) % 10) as u64;
+        v = v % 1_000_000_000 * 10 + (text_in::digit(s[i]) % 10) as u64;
         i += 1;
     }
     v
@@ -75,7 +75,7 @@ fn decimal(s: &[u8]) -> u64 {
 
 // A method by its word, or by its number where it is none of the seven.
 fn method(s: &[u8]) -> u32 {
-    let known = text::method_of(s, 0, s.len());
+    let known = text_in::method_of(s, 0, s.len());
     if known < 7 {
         return known;
     }
@@ -115,9 +115,9 @@ fn mark_at(s: &[u8], at: usize) -> u64 {
 // A setting, as in the program's text.
 fn setting_at(s: &[u8], at: usize) -> i32 {
     let from = at_most(at, s.len());
-    match text::setting_at(s, from) {
-        text::Setting::Is { value, next: _ } => value,
-        text::Setting::NoSetting => 0,
+    match text_in::setting_at(s, from) {
+        text_in::Setting::Is { value, next: _ } => value,
+        text_in::Setting::NoSetting => 0,
     }
 }
 
@@ -278,7 +278,7 @@ fn bits(s: &[u8]) -> u32 {
     let mut i: usize = 0;
     while i < s.len() {
         if s[i] != b' ' {
-            v = v % 0x8000_0000 * 2 + text::digit(s[i]) % 2;
+            v = v % 0x8000_0000 * 2 + text_in::digit(s[i]) % 2;
         }
         i += 1;
     }
