@@ -1,8 +1,3 @@
 pub mod Walks
 pub mod Few
-pub mod Rest
-pub mod Blocks
-pub mod Planned
 pub mod Tails
-pub mod Plans
-pub mod Methods

@@ -1,4 +1,4 @@
--- What methods 0 to 3 put into the tail, as one thing at even places and one at odd ones; and method 4 with no tail.
+-- What methods 0 to 3 put into the tail, as one thing at even places and one at odd ones; method 4 with no tail; and methods 4 to 6, which don't look at the place.
 use mathlib.Core.Path.{_≡_, refl, sym, ap, _∙_}
 use mathlib.Core.Logic.{_≢_}
 use mathlib.Core.Bool.{Bool, true, false, cond}
@@ -12,13 +12,10 @@ use lib.Pow.{pow-pos, pow-lt, ones-lt}
 use Rattle.meaning.specs.Readings.{magnitude, infinity}
 use Rattle.meaning.specs.Methods.{Method, TailMethod, tail, shave, set, groom, halfshave, round, absolute, digits, shaved, tailSet, halfshaved, rounded, tailChanged, clips, newMagnitude}
 use Rattle.meaning.proofs.Rounding.{round-within}
-use Rattle.reading.specs.Left.{wanted, wantedBy, over, tailAdded, singleFrom, doubleFrom, singleBy, doubleBy}
+use Rattle.reading.specs.Left.{wanted, wantedBy, over, tailAdded}
 use Rattle.reading.proofs.Counted.{on-grid}
-use Rattle.reading.proofs.Words.{wanted-sum}
-use Rattle.reading.proofs.Bys.{single-by, double-by}
 use Rattle.asking.specs.Asked.{methodBy}
-use Rattle.loops.specs.Plans.{halfUnit, evenBy, oddBy}
-use Rattle.loops.specs.Walk.{addAt, tailSingle, tailDouble}
+use Rattle.loops.specs.Methods.{halfUnit, evenBy, oddBy, addAt}
 
 -- what each method puts there at even and at odd places
 abbrev pub evenAdd : TailMethod → ℕ → ℕ
@@ -57,7 +54,7 @@ odd-fits set t = ones-lt t
 odd-fits groom t = ones-lt t
 odd-fits halfshave t = half-fits t
 
-same-add : (a place : ℕ) → addAt a a place ≡ a
+pub same-add : (a place : ℕ) → addAt a a place ≡ a
 unfolding addAt
 same-add a place = go (eqb (place % 2) 0)
   where
@@ -102,17 +99,17 @@ tail-added halfshave place t m = rw (same-add (halfUnit t) place) (added-half t 
 
 module _ (F X : ℕ) where
   -- the tail of k keep bits
-  tail-wanted : (c : TailMethod) (k t place w : ℕ) → t ≡ F - k → wanted F X w (tailAdded t (addAt (evenAdd c t) (oddAdd c t) place) (magnitude F X w)) ≡ wantedBy F X (tail c k) place w
+  pub tail-wanted : (c : TailMethod) (k t place w : ℕ) → t ≡ F - k → wanted F X w (tailAdded t (addAt (evenAdd c t) (oddAdd c t) place) (magnitude F X w)) ≡ wantedBy F X (tail c k) place w
   unfolding wantedBy newMagnitude
   tail-wanted c k t place w e = rw (tail-added c place t (magnitude F X w), e) refl
 
   -- method 4 with no tail leaves a finite magnitude
-  none-new : (m : ℕ) → m < infinity F X → tailAdded 0 0 m ≡ newMagnitude F X (round F) 0 m
+  pub none-new : (m : ℕ) → m < infinity F X → tailAdded 0 0 m ≡ newMagnitude F X (round F) 0 m
   none-new m h =
       let e : rounded (F - F) m ≡ m = rw (sub-self F) (on-grid 0 m (no-tail m)) in
       added-none 0 m ∙ no-tail m ∙ sym (round-within F X F 0 m (rw e h) ∙ e)
 
-  none-over : (w : ℕ) → magnitude F X w < infinity F X → 0 ≡ over F X (round F) w
+  pub none-over : (w : ℕ) → magnitude F X w < infinity F X → 0 ≡ over F X (round F) w
   unfolding over clips
   none-over w h =
       let e : rounded (F - F) (magnitude F X w) ≡ magnitude F X w = rw (sub-self F) (on-grid 0 (magnitude F X w) (no-tail (magnitude F X w))) in
@@ -134,40 +131,6 @@ module _ (F X : ℕ) where
   unfolding newMagnitude
   digits-placeless n place m = refl
 
--- singles
-pub single-placeless : (x : Method) → Placeless 23 8 x → (mark place w : ℕ) → singleBy x mark 0 w ≡ singleBy x mark place w
-unfolding singleBy wantedBy
-single-placeless x h mark place w = rw (h place (magnitude 23 8 w)) refl
-
-pub single-tail : (c : TailMethod) (k t mark place w : ℕ) → t ≡ 23 - k → tailSingle t (evenAdd c t) (oddAdd c t) mark place w ≡ singleBy (tail c k) mark place w
-unfolding tailSingle singleBy over clips
-single-tail c k t mark place w e = ap (λ (z : ℕ). singleFrom mark w z 0) (tail-wanted 23 8 c k t place w e)
-
-pub single-none : (mark place w : ℕ) → tailSingle 0 0 0 mark place w ≡ singleBy (round 23) mark place w
-unfolding tailSingle
-single-none mark place w =
-    ap (λ (a : ℕ). singleFrom mark w (wanted 23 8 w (tailAdded 0 a (magnitude 23 8 w))) 0) (same-add 0 place)
-    ∙ single-by (round 23) mark w (tailAdded 0 0 (magnitude 23 8 w)) 0 (wanted 23 8 w (tailAdded 0 0 (magnitude 23 8 w)))
-    (none-new 23 8 (magnitude 23 8 w)) (none-over 23 8 w) (sym (wanted-sum 23 8 w (tailAdded 0 0 (magnitude 23 8 w))))
-    ∙ single-placeless (round 23) (round-placeless 23 8 23) mark place w
-
--- doubles
-pub double-placeless : (x : Method) → Placeless 52 11 x → (mark place w : ℕ) → doubleBy x mark 0 w ≡ doubleBy x mark place w
-unfolding doubleBy wantedBy
-double-placeless x h mark place w = rw (h place (magnitude 52 11 w)) refl
-
-pub double-tail : (c : TailMethod) (k t mark place w : ℕ) → t ≡ 52 - k → tailDouble t (evenAdd c t) (oddAdd c t) mark place w ≡ doubleBy (tail c k) mark place w
-unfolding tailDouble doubleBy over clips
-double-tail c k t mark place w e = ap (λ (z : ℕ). doubleFrom mark w z 0) (tail-wanted 52 11 c k t place w e)
-
-pub double-none : (mark place w : ℕ) → tailDouble 0 0 0 mark place w ≡ doubleBy (round 52) mark place w
-unfolding tailDouble
-double-none mark place w =
-    ap (λ (a : ℕ). doubleFrom mark w (wanted 52 11 w (tailAdded 0 a (magnitude 52 11 w))) 0) (same-add 0 place)
-    ∙ double-by (round 52) mark w (tailAdded 0 0 (magnitude 52 11 w)) 0 (wanted 52 11 w (tailAdded 0 0 (magnitude 52 11 w)))
-    (none-new 52 11 (magnitude 52 11 w)) (none-over 52 11 w) (sym (wanted-sum 52 11 w (tailAdded 0 0 (magnitude 52 11 w))))
-    ∙ double-placeless (round 52) (round-placeless 52 11 52) mark place w
-
 -- ---- by a method's number
 
 pub even-by : (method t : ℕ) → method < 4 → evenBy method t < 2 ^ t
@@ -186,18 +149,6 @@ odd-by (suc (suc zero)) t h = odd-fits groom t
 odd-by (suc (suc (suc zero))) t h = odd-fits halfshave t
 odd-by (suc (suc (suc (suc m)))) t h = absurd (omega arith)
 
-pub single-tail-by : (method n t mark place w : ℕ) → method < 4 → t ≡ 23 - n → tailSingle t (evenBy method t) (oddBy method t) mark place w ≡ singleBy (methodBy method n) mark place w
-unfolding methodBy oddBy evenBy
-single-tail-by zero n t mark place w h e = single-tail shave n t mark place w e
-single-tail-by (suc zero) n t mark place w h e = single-tail set n t mark place w e
-single-tail-by (suc (suc zero)) n t mark place w h e = single-tail groom n t mark place w e
-single-tail-by (suc (suc (suc zero))) n t mark place w h e = single-tail halfshave n t mark place w e
-single-tail-by (suc (suc (suc (suc m)))) n t mark place w h e = absurd (omega arith)
-
-pub double-tail-by : (method n t mark place w : ℕ) → method < 4 → t ≡ 52 - n → tailDouble t (evenBy method t) (oddBy method t) mark place w ≡ doubleBy (methodBy method n) mark place w
-unfolding methodBy oddBy evenBy
-double-tail-by zero n t mark place w h e = double-tail shave n t mark place w e
-double-tail-by (suc zero) n t mark place w h e = double-tail set n t mark place w e
-double-tail-by (suc (suc zero)) n t mark place w h e = double-tail groom n t mark place w e
-double-tail-by (suc (suc (suc zero))) n t mark place w h e = double-tail halfshave n t mark place w e
-double-tail-by (suc (suc (suc (suc m)))) n t mark place w h e = absurd (omega arith)
+pub by-six : (method n : ℕ) → method ≡ 6 → digits n ≡ methodBy method n
+unfolding methodBy
+by-six method n e = rw e refl

@@ -12,8 +12,9 @@ use Rattle.reading.specs.Left.{singleBy, doubleBy}
 use Rattle.asking.specs.Asked.{methodBy, refusalOf, numberOf}
 use Rattle.asking.proofs.Questions.{Bounds, accepted-is, refused-is, single-bounds, double-bounds}
 use Rattle.loops.specs.declared.Totals.{Totals}
-use Rattle.loops.specs.Plans.{Fitting}
-use Rattle.loops.specs.Walk.{singlesLeft, singlesTotal, doublesLeft, doublesSummed}
+use Rattle.loops.specs.Methods.{Fitting}
+use Rattle.singles.specs.Walk.{singlesLeft, singlesTotal}
+use Rattle.doubles.specs.Walk.{doublesLeft, doublesSummed}
 use Rattle.trim.proofs.Meaning.{singles-left, singles-counts, singles-fewer, doubles-left, doubles-counts, doubles-fewer}
 
 module _ (F X method : ℕ) (s : ℤ) (mark : ℕ) (ws : List ℕ) where

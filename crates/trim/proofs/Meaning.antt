@@ -12,7 +12,9 @@ use Rattle.reading.specs.declared.Double.{Double}
 use Rattle.reading.specs.Left.{singleFrom, doubleFrom, singleBy, doubleBy}
 use Rattle.reading.proofs.Counted.{left-is, changed-is, marked-is, clipped-is}
 use Rattle.loops.specs.declared.Totals.{Totals}
-use Rattle.loops.specs.Walk.{mapFrom, sumFrom, singlesLeft, singlesTotal, doublesLeft, doublesSummed}
+use Rattle.loops.specs.Walk.{mapFrom, sumFrom}
+use Rattle.singles.specs.Walk.{singlesLeft, singlesTotal}
+use Rattle.doubles.specs.Walk.{doublesLeft, doublesSummed}
 
 module _ (F X mark : ℕ) where
   pub map-trim : (x : Method) (p : ℕ → ℕ → ℕ) → ((i w : ℕ) → p i w ≡ trimmed F X x mark i w) → (place : ℕ) (ws : List ℕ) → mapFrom p place ws ≡ trimFrom F X x mark place ws

@@ -24,7 +24,7 @@ pub fn trim_singles(readings: &mut [u32], method: u32, setting: i32, mark: u32) 
     if asked.refusal != 0 {
         return Answer::Refused(asked.refusal);
     }
-    let t = loops::method_singles(readings, method, asked.number, mark);
+    let t = singles::method_singles(readings, method, asked.number, mark);
     Answer::Counts {
         changed: t.changed,
         spared: t.marked - t.missing,
@@ -43,7 +43,7 @@ pub fn trim_doubles(readings: &mut [u64], method: u32, setting: i32, mark: u64) 
     if asked.refusal != 0 {
         return Answer::Refused(asked.refusal);
     }
-    let all = loops::method_doubles(readings, method, asked.number, mark);
+    let all = doubles::method_doubles(readings, method, asked.number, mark);
     Answer::Counts {
         changed: all.changed,
         spared: all.marked - all.missing,
@@ -61,6 +61,6 @@ pub fn trim_single(x: u32, method: u32, setting: i32, mark: u32, place: u64) -> 
     if asked.refusal != 0 {
         return 4294967296 + loops::wide(asked.refusal);
     }
-    let one = loops::method_single(x, method, asked.number, mark, place);
+    let one = singles::method_single(x, method, asked.number, mark, place);
     loops::wide(one.pattern)
 }

@@ -1,0 +1,3 @@
+pub mod Few
+pub mod Tails
+pub mod Methods
