@@ -5,7 +5,7 @@ use mathlib.Core.List.{List, [], _∷_, _++_, append-assoc}
 use Prim.Native.Nat.{ℕ, zero, suc, min, _+_, _-_, _/_, _%_, _<_, _≤_, zero-le}
 use native.Mathlib.Nat.{add-zero, zero-add, add-assoc, add-suc, suc-add}
 use native.Mathlib.Omega.{arith}
-use lib.ListN.{length, take, drop, length-take, length-drop, take-append-drop}
+use lib.ListN.{length, take, drop, length-drop, take-append-drop}
 use lib.Seq.{length-take-le}
 use Rattle.parts.proofs.Back.{back, length-back, take-back, drop-back}
 use Rattle.loops.specs.Walk.{mapFrom, sumFrom}

@@ -3,7 +3,6 @@ use mathlib.Core.Path.{_≡_, ap, _∙_}
 use mathlib.Core.Logic.{_≢_}
 use Prim.Native.Nat.{ℕ, _+_, _^_}
 use lib.IntN.{ℤ}
-use Rattle.meaning.specs.Questions.{accepted}
 use Rattle.meaning.specs.Calls.{answering, loaderNumber, loader}
 use Rattle.reading.specs.declared.Single.{Single}
 use Rattle.reading.specs.Left.{singleFrom, singleBy}
