@@ -5,10 +5,11 @@ use Prim.Native.Nat.{ℕ, _+_, _≤_, _<_, zero-le}
 use native.Mathlib.Nat.{le-refl}
 use lib.Dec.{eqb}
 use lib.ListN.{length, getD, set}
-use Rattle.reading.specs.declared.Double.{Double}
+use Rattle.double.specs.declared.Double.{Double}
 use Rattle.meaning.specs.Readings.{magnitude}
 use Rattle.meaning.specs.Methods.{Method, clips}
-use Rattle.reading.specs.Left.{unlessMissing, leftFrom, doubleFrom, wantedBy, over, doubleBy}
+use Rattle.reading.specs.Left.{unlessMissing, leftFrom, wantedBy, over}
+use Rattle.double.specs.Left.{doubleFrom, doubleBy}
 use Rattle.loops.proofs.Few.{bit-of}
 use Rattle.loops.proofs.Walks.{Turn, start, turn, finish}
 use Rattle.doubles.specs.Walk.{doublesLeft, doublesSummed}

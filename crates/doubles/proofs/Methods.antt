@@ -3,8 +3,8 @@ use mathlib.Core.Path.{_≡_, refl, ap, fun-ext}
 use Prim.Native.Nat.{ℕ, _-_, _≤_, _<_}
 use native.Mathlib.Omega.{arith}
 use Rattle.meaning.specs.Methods.{Method, round, absolute, newMagnitude}
-use Rattle.reading.specs.declared.Double.{Double}
-use Rattle.reading.specs.Left.{doubleBy}
+use Rattle.double.specs.declared.Double.{Double}
+use Rattle.double.specs.Left.{doubleBy}
 use Rattle.asking.specs.Asked.{methodBy}
 use Rattle.loops.specs.Methods.{evenBy, oddBy}
 use Rattle.doubles.specs.Walk.{tailDouble}

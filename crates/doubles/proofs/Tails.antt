@@ -4,9 +4,10 @@ use Prim.Native.Nat.{ℕ, zero, suc, _-_, _<_}
 use native.Mathlib.Omega.{arith}
 use Rattle.meaning.specs.Readings.{magnitude}
 use Rattle.meaning.specs.Methods.{Method, TailMethod, tail, shave, set, groom, halfshave, round, clips}
-use Rattle.reading.specs.Left.{wanted, wantedBy, over, tailAdded, doubleFrom, doubleBy}
+use Rattle.reading.specs.Left.{wanted, wantedBy, over, tailAdded}
 use Rattle.reading.proofs.Words.{wanted-sum}
-use Rattle.reading.proofs.Bys.{double-by}
+use Rattle.double.specs.Left.{doubleFrom, doubleBy}
+use Rattle.double.proofs.Bys.{double-by}
 use Rattle.asking.specs.Asked.{methodBy}
 use Rattle.loops.specs.Methods.{evenBy, oddBy}
 use Rattle.loops.proofs.Tails.{evenAdd, oddAdd, same-add, tail-wanted, none-new, none-over, Placeless, round-placeless}

@@ -2,8 +2,9 @@
 use mathlib.Core.List.{List}
 use Prim.Native.Nat.{ℕ}
 use Rattle.meaning.specs.Readings.{magnitude}
-use Rattle.reading.specs.declared.Double.{Double}
-use Rattle.reading.specs.Left.{doubleFrom, wanted, tailAdded}
+use Rattle.reading.specs.Left.{wanted, tailAdded}
+use Rattle.double.specs.declared.Double.{Double}
+use Rattle.double.specs.Left.{doubleFrom}
 use Rattle.loops.specs.declared.Totals.{Totals}
 use Rattle.loops.specs.Methods.{addAt}
 use Rattle.loops.specs.Walk.{mapFrom, sumFrom}

@@ -2,7 +2,7 @@
 ghost use mathlib.Core.Path.{_≡_};
 ghost use Prim.Native.Nat.{_-_, _^_, _<_, _≤_};
 ghost use Rattle.meaning.specs.Methods.{round, absolute, digits};
-ghost use Rattle.reading.specs.Left.{doubleBy};
+ghost use Rattle.double.specs.Left.{doubleBy};
 ghost use Rattle.asking.specs.Asked.{methodBy};
 ghost use Rattle.loops.specs.Methods.{halfUnit, evenBy, oddBy, addAt, Fitting};
 ghost use Rattle.doubles.specs.Walk.{doublesLeft, doublesSummed, tailDouble};
@@ -27,7 +27,7 @@ fn tail_doubles(readings: &mut [u64], t: u32, even: u64, odd: u64, mark: u64) ->
     let mut i: usize = 0;
     while i < readings.len() {
         let add = double_at(i, even, odd);
-        let one = reading::tail_double(readings[i], t, add, mark);
+        let one = double::tail_double(readings[i], t, add, mark);
         readings[i] = one.pattern;
         changed += one.changed;
         marked += one.marked;
@@ -55,7 +55,7 @@ fn round_doubles(readings: &mut [u64], t: u32, mark: u64) -> loops::Totals
     let mut missing: u64 = 0;
     let mut i: usize = 0;
     while i < readings.len() {
-        let one = reading::round_double(readings[i], t, mark);
+        let one = double::round_double(readings[i], t, mark);
         readings[i] = one.pattern;
         changed += one.changed;
         marked += one.marked;
@@ -83,7 +83,7 @@ fn fine_doubles(readings: &mut [u64], q: u64, mark: u64) -> loops::Totals
     let mut missing: u64 = 0;
     let mut i: usize = 0;
     while i < readings.len() {
-        let one = reading::fine_double(readings[i], q, mark);
+        let one = double::fine_double(readings[i], q, mark);
         readings[i] = one.pattern;
         changed += one.changed;
         marked += one.marked;
@@ -110,7 +110,7 @@ fn coarse_doubles(readings: &mut [u64], q: u64, mark: u64) -> loops::Totals
     let mut missing: u64 = 0;
     let mut i: usize = 0;
     while i < readings.len() {
-        let one = reading::coarse_double(readings[i], q, mark);
+        let one = double::coarse_double(readings[i], q, mark);
         readings[i] = one.pattern;
         changed += one.changed;
         marked += one.marked;
@@ -139,7 +139,7 @@ fn digit_doubles(readings: &mut [u64], n: u32, mark: u64) -> loops::Totals
     let mut missing: u64 = 0;
     let mut i: usize = 0;
     while i < readings.len() {
-        let one = reading::digit_double(&table, readings[i], n, mark);
+        let one = double::digit_double(&table, readings[i], n, mark);
         readings[i] = one.pattern;
         changed += one.changed;
         marked += one.marked;
@@ -161,7 +161,7 @@ fn even_double(method: u32, t: u32) -> u64
     ensures { λ r. ⌜ r ≡ evenBy method t ⌝ }
 {
     if method == 1 {
-        return reading::power_double(t) - 1;
+        return double::power_double(t) - 1;
     }
     if method == 3 {
         return half_double(t);
@@ -175,7 +175,7 @@ fn odd_double(method: u32, t: u32) -> u64
     ensures { λ r. ⌜ r ≡ oddBy method t ⌝ }
 {
     if method == 2 {
-        return reading::power_double(t) - 1;
+        return double::power_double(t) - 1;
     }
     even_double(method, t)
 }
@@ -188,7 +188,7 @@ fn half_double(t: u32) -> u64
     if t == 0 {
         return 0;
     }
-    reading::power_double(t - 1)
+    double::power_double(t - 1)
 }
 
 // Method 4 over doubles with a tail of t bits, or none.

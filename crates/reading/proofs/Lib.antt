@@ -1,4 +1,2 @@
 pub mod Counted
 pub mod Words
-pub mod Bys
-pub mod Fields

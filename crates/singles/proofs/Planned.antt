@@ -9,8 +9,8 @@ use borrow.Author.Tests.{eq-eqb, ne-eqb}
 use lib.Dec.{eqb}
 use lib.ListN.{length, take, drop}
 use Rattle.meaning.specs.Methods.{round, absolute, digits}
-use Rattle.reading.specs.declared.Single.{Single}
-use Rattle.reading.specs.Left.{singleBy}
+use Rattle.single.specs.declared.Single.{Single}
+use Rattle.single.specs.Left.{singleBy}
 use Rattle.loops.specs.Methods.{addAt}
 use Rattle.singles.specs.declared.Block.{Block}
 use Rattle.singles.specs.declared.Plan.{Plan}

@@ -5,8 +5,8 @@ use Prim.Native.Nat.{ℕ, _-_, _≤_, _<_}
 use native.Mathlib.Omega.{arith}
 use lib.Pow.{pow-pos}
 use Rattle.meaning.specs.Methods.{Method, round, absolute, digits}
-use Rattle.reading.specs.declared.Single.{Single}
-use Rattle.reading.specs.Left.{singleBy}
+use Rattle.single.specs.declared.Single.{Single}
+use Rattle.single.specs.Left.{singleBy}
 use Rattle.asking.specs.Asked.{methodBy}
 use Rattle.loops.specs.Methods.{evenBy, oddBy}
 use Rattle.loops.proofs.Tails.{even-by, odd-by, by-six, round-placeless, absolute-placeless, digits-placeless}

@@ -9,8 +9,8 @@ use lib.Dec.{eqb, ltb}
 use lib.ListN.{length, getD, set, length-set}
 use lib.Seq.{getD-set-other}
 use Rattle.meaning.specs.Readings.{magnitude}
-use Rattle.reading.specs.Left.{subnormal}
 use Rattle.reading.proofs.Words.{cond-lt}
+use Rattle.single.specs.Left.{subnormal}
 
 abbrev pub Rest : List ℕ → ℕ → Type 0
 Rest ws i = (k : ℕ) → i ≤ k → k < length ws → subnormal 23 8 (getD ws k 0) ≡ 0

@@ -4,9 +4,10 @@ use Prim.Native.Nat.{ℕ, zero, suc, _-_, _<_}
 use native.Mathlib.Omega.{arith}
 use Rattle.meaning.specs.Readings.{magnitude}
 use Rattle.meaning.specs.Methods.{Method, TailMethod, tail, shave, set, groom, halfshave, round, clips}
-use Rattle.reading.specs.Left.{wanted, wantedBy, over, tailAdded, singleFrom, singleBy}
+use Rattle.reading.specs.Left.{wanted, wantedBy, over, tailAdded}
 use Rattle.reading.proofs.Words.{wanted-sum}
-use Rattle.reading.proofs.Bys.{single-by}
+use Rattle.single.specs.Left.{singleFrom, singleBy}
+use Rattle.single.proofs.Bys.{single-by}
 use Rattle.asking.specs.Asked.{methodBy}
 use Rattle.loops.specs.Methods.{evenBy, oddBy}
 use Rattle.loops.proofs.Tails.{evenAdd, oddAdd, same-add, tail-wanted, none-new, none-over, Placeless, round-placeless}

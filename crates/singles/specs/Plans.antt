@@ -4,8 +4,8 @@ use mathlib.Core.Bool.{Bool, true, false}
 use Prim.Native.Nat.{ℕ, _-_, _^_, _≤_, _<_}
 use lib.Dec.{eqb}
 use Rattle.meaning.specs.Methods.{round, absolute, digits}
-use Rattle.reading.specs.declared.Single.{Single}
-use Rattle.reading.specs.Left.{singleBy}
+use Rattle.single.specs.declared.Single.{Single}
+use Rattle.single.specs.Left.{singleBy}
 use Rattle.asking.specs.Asked.{methodBy}
 use Rattle.singles.specs.declared.Plan.{Plan}
 use Rattle.singles.specs.Walk.{tailSingle}

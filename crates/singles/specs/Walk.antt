@@ -4,8 +4,9 @@ use mathlib.Core.List.{List}
 use Prim.Native.Nat.{ℕ, _<_}
 use lib.ListN.{length, getD}
 use Rattle.meaning.specs.Readings.{magnitude}
-use Rattle.reading.specs.declared.Single.{Single}
-use Rattle.reading.specs.Left.{singleFrom, wanted, tailAdded, subnormal}
+use Rattle.reading.specs.Left.{wanted, tailAdded}
+use Rattle.single.specs.declared.Single.{Single}
+use Rattle.single.specs.Left.{singleFrom, subnormal}
 use Rattle.loops.specs.declared.Totals.{Totals}
 use Rattle.loops.specs.Methods.{addAt}
 use Rattle.loops.specs.Walk.{mapFrom, sumFrom}

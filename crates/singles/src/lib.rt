@@ -7,7 +7,7 @@ ghost use lib.ListN.{length};
 ghost use Rattle.meaning.specs.Methods.{round, absolute, digits};
 ghost use Rattle.powers.specs.Table.{powers};
 ghost use Rattle.powers.specs.Fields.{Limits, Masks};
-ghost use Rattle.reading.specs.Left.{singleBy};
+ghost use Rattle.single.specs.Left.{singleBy};
 ghost use Rattle.asking.specs.Asked.{methodBy};
 ghost use Rattle.loops.specs.Methods.{halfUnit, evenBy, oddBy, addAt, Fitting};
 ghost use Rattle.singles.specs.Plans.{Sound, planned, Plans};
@@ -41,7 +41,7 @@ fn tail_singles(readings: &mut [u32], t: u32, even: u32, odd: u32, mark: u32) ->
     let mut i: usize = 0;
     while i < readings.len() {
         let add = single_at(i, even, odd);
-        let one = reading::tail_single(readings[i], t, add, mark);
+        let one = single::tail_single(readings[i], t, add, mark);
         readings[i] = one.pattern;
         changed += one.changed;
         marked += one.marked;
@@ -69,7 +69,7 @@ fn round_singles(readings: &mut [u32], t: u32, mark: u32) -> Block
     let mut missing: u32 = 0;
     let mut i: usize = 0;
     while i < readings.len() {
-        let one = reading::round_single(readings[i], t, mark);
+        let one = single::round_single(readings[i], t, mark);
         readings[i] = one.pattern;
         changed += one.changed;
         marked += one.marked;
@@ -97,7 +97,7 @@ fn fine_singles(readings: &mut [u32], q: u32, mark: u32) -> Block
     let mut missing: u32 = 0;
     let mut i: usize = 0;
     while i < readings.len() {
-        let one = reading::fine_single(readings[i], q, mark);
+        let one = single::fine_single(readings[i], q, mark);
         readings[i] = one.pattern;
         changed += one.changed;
         marked += one.marked;
@@ -125,7 +125,7 @@ fn coarse_singles(readings: &mut [u32], q: u32, mark: u32) -> Block
     let mut missing: u32 = 0;
     let mut i: usize = 0;
     while i < readings.len() {
-        let one = reading::coarse_single(readings[i], q, mark);
+        let one = single::coarse_single(readings[i], q, mark);
         readings[i] = one.pattern;
         changed += one.changed;
         marked += one.marked;
@@ -153,7 +153,7 @@ fn digit_singles(table: &[u64; 633], readings: &mut [u32], n: u32, mark: u32) ->
     let mut missing: u32 = 0;
     let mut i: usize = 0;
     while i < readings.len() {
-        let one = reading::digit_single(table, readings[i], n, mark);
+        let one = single::digit_single(table, readings[i], n, mark);
         readings[i] = one.pattern;
         changed += one.changed;
         marked += one.marked;
@@ -187,7 +187,7 @@ fn field_singles(
     let mut missing: u32 = 0;
     let mut i: usize = 0;
     while i < readings.len() {
-        let one = reading::field_single(limits, masks, readings[i], n, mark);
+        let one = single::field_single(limits, masks, readings[i], n, mark);
         readings[i] = one.pattern;
         changed += one.changed;
         marked += one.marked;
@@ -211,7 +211,7 @@ fn subnormal_singles(readings: &[u32]) -> u32
     let mut found: u32 = 0;
     let mut i: usize = 0;
     while i < readings.len() {
-        found += reading::subnormal_single(readings[i]);
+        found += single::subnormal_single(readings[i]);
         i += 1;
     }
     found
@@ -315,7 +315,7 @@ fn even_single(method: u32, t: u32) -> u32
     ensures { λ r. ⌜ r ≡ evenBy method t ⌝ }
 {
     if method == 1 {
-        return reading::power_single(t) - 1;
+        return single::power_single(t) - 1;
     }
     if method == 3 {
         return half_single(t);
@@ -329,7 +329,7 @@ fn odd_single(method: u32, t: u32) -> u32
     ensures { λ r. ⌜ r ≡ oddBy method t ⌝ }
 {
     if method == 2 {
-        return reading::power_single(t) - 1;
+        return single::power_single(t) - 1;
     }
     even_single(method, t)
 }
@@ -342,7 +342,7 @@ fn half_single(t: u32) -> u32
     if t == 0 {
         return 0;
     }
-    reading::power_single(t - 1)
+    single::power_single(t - 1)
 }
 
 // The plan of a method for singles, by its number and its natural setting.
@@ -433,26 +433,26 @@ pub fn method_singles(readings: &mut [u32], method: u32, n: u32, mark: u32) -> l
 }
 
 // One single by its plan, at a place.
-fn planned_single(plan: Plan, x: u32, place: u64, mark: u32) -> reading::Single
+fn planned_single(plan: Plan, x: u32, place: u64, mark: u32) -> single::Single
     requires { ⌜ Sound plan ⌝ }
     ensures { λ r. ⌜ r ≡ planned plan mark place x ⌝ }
 {
     if plan.kind == 0 {
         let add = single_at(place as usize, plan.even, plan.odd);
-        return reading::tail_single(x, plan.t, add, mark);
+        return single::tail_single(x, plan.t, add, mark);
     }
     if plan.kind == 1 {
-        return reading::round_single(x, plan.t, mark);
+        return single::round_single(x, plan.t, mark);
     }
     if plan.kind == 3 {
         let table = powers::POWERS;
-        return reading::digit_single(&table, x, plan.q, mark);
+        return single::digit_single(&table, x, plan.q, mark);
     }
-    reading::coarse_single(x, plan.q, mark)
+    single::coarse_single(x, plan.q, mark)
 }
 
 // One single by a method's number and its natural setting, at a place.
-pub fn method_single(x: u32, method: u32, n: u32, mark: u32, place: u64) -> reading::Single
+pub fn method_single(x: u32, method: u32, n: u32, mark: u32, place: u64) -> single::Single
     requires { ⌜ Fitting method n 23 7 ⌝ }
     ensures { λ r. ⌜ r ≡ singleBy (methodBy method n) mark place x ⌝ }
 {

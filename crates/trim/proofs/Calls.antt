@@ -8,7 +8,8 @@ use Rattle.meaning.specs.Methods.{Method, trimFrom, counts}
 use Rattle.meaning.specs.Questions.{refused, accepted, trimQuestions}
 use Rattle.meaning.specs.Calls.{answering, leaving, trim}
 use Rattle.meaning.proofs.Accepted.{Ready, accepted-ready}
-use Rattle.reading.specs.Left.{singleBy, doubleBy}
+use Rattle.single.specs.Left.{singleBy}
+use Rattle.double.specs.Left.{doubleBy}
 use Rattle.asking.specs.Asked.{methodBy, refusalOf, numberOf}
 use Rattle.asking.proofs.Questions.{Bounds, accepted-is, refused-is, single-bounds, double-bounds}
 use Rattle.loops.specs.declared.Totals.{Totals}

@@ -4,9 +4,9 @@ use mathlib.Core.Logic.{_≢_}
 use Prim.Native.Nat.{ℕ, _+_, _^_}
 use lib.IntN.{ℤ}
 use Rattle.meaning.specs.Calls.{answering, loaderNumber, loader}
-use Rattle.reading.specs.declared.Single.{Single}
-use Rattle.reading.specs.Left.{singleFrom, singleBy}
 use Rattle.reading.proofs.Counted.{left-is}
+use Rattle.single.specs.declared.Single.{Single}
+use Rattle.single.specs.Left.{singleFrom, singleBy}
 use Rattle.asking.specs.Asked.{methodBy, refusalOf, numberOf}
 use Rattle.asking.proofs.Questions.{refused-is}
 use Rattle.trim.proofs.Calls.{single-asked, single-ready}

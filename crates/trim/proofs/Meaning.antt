@@ -7,10 +7,11 @@ use native.Mathlib.Omega.{arith}
 use Rattle.meaning.specs.Readings.{missing}
 use Rattle.meaning.specs.Methods.{Method, placeAfter, trimmed, trimFrom, countFrom, changed, spared, clipped, counts}
 use Rattle.meaning.proofs.Accepted.{Ready}
-use Rattle.reading.specs.declared.Single.{Single}
-use Rattle.reading.specs.declared.Double.{Double}
-use Rattle.reading.specs.Left.{singleFrom, doubleFrom, singleBy, doubleBy}
 use Rattle.reading.proofs.Counted.{left-is, changed-is, marked-is, clipped-is}
+use Rattle.single.specs.declared.Single.{Single}
+use Rattle.single.specs.Left.{singleFrom, singleBy}
+use Rattle.double.specs.declared.Double.{Double}
+use Rattle.double.specs.Left.{doubleFrom, doubleBy}
 use Rattle.loops.specs.declared.Totals.{Totals}
 use Rattle.loops.specs.Walk.{mapFrom, sumFrom}
 use Rattle.singles.specs.Walk.{singlesLeft, singlesTotal}

@@ -5,7 +5,7 @@ use Prim.Native.Nat.{_-_}
 use native.Mathlib.Omega.{arith}
 use lib.ListN.{length}
 use Rattle.meaning.specs.Methods.{round}
-use Rattle.reading.specs.Left.{doubleBy}
+use Rattle.double.specs.Left.{doubleBy}
 use Rattle.doubles.proofs.Few.{DoubleTurn, few-double-by, FewDouble, double-start, double-turn, double-finish}
 use Rattle.doubles.proofs.round_doubles.Statement.{statement}
 use Rattle.doubles.proofs.round_doubles.Tie as tie

@@ -3,7 +3,7 @@ use borrow.Author.Needs.{needs}
 use mathlib.Core.Path.{ap, _∙_}
 use Prim.Native.Nat.{ℕ, _-_}
 use native.Mathlib.Omega.{arith}
-use Rattle.reading.specs.declared.Double.{Double}
+use Rattle.double.specs.declared.Double.{Double}
 use Rattle.meaning.specs.Methods.{absolute}
 use Rattle.loops.proofs.Tails.{absolute-placeless}
 use Rattle.doubles.specs.Walk.{doublesLeft, doublesSummed}

@@ -5,7 +5,8 @@ use Prim.Native.Nat.{ℕ, _-_, _^_, _<_, zero-le}
 use native.Mathlib.Omega.{arith}
 use lib.ListN.{length, getD}
 use Rattle.meaning.specs.Readings.{magnitude}
-use Rattle.reading.specs.Left.{doubleFrom, wanted, tailAdded}
+use Rattle.reading.specs.Left.{wanted, tailAdded}
+use Rattle.double.specs.Left.{doubleFrom}
 use Rattle.loops.proofs.Few.{add-below}
 use Rattle.doubles.specs.Walk.{tailDouble}
 use Rattle.doubles.proofs.Few.{DoubleTurn, few-double, FewDouble, double-start, double-turn, double-finish}

@@ -3,7 +3,7 @@ use borrow.Author.Needs.{needs}
 use mathlib.Core.Path.{refl, sym, ap, _∙_}
 use Prim.Native.Nat.{ℕ, _-_}
 use native.Mathlib.Omega.{arith}
-use Rattle.reading.specs.declared.Double.{Double}
+use Rattle.double.specs.declared.Double.{Double}
 use mathlib.Core.Path.{subst}
 use Prim.Native.Nat.{_^_, _<_}
 use Rattle.loops.proofs.Tails.{even-by, odd-by}

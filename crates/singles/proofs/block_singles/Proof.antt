@@ -3,7 +3,7 @@ use borrow.Author.Needs.{needs}
 use mathlib.Core.Path.{ap, sym, _∙_}
 use Prim.Native.Nat.{ℕ}
 use native.Mathlib.Omega.{arith}
-use Rattle.reading.specs.declared.Single.{Single}
+use Rattle.single.specs.declared.Single.{Single}
 use Rattle.singles.specs.Walk.{singlesLeft, singlesSummed}
 use Rattle.singles.proofs.Planned.{is-tail, is-round, is-digits, is-absolute}
 use Rattle.singles.proofs.block_singles.Statement.{statement}

@@ -5,7 +5,7 @@ use Prim.Native.Nat.{_-_}
 use native.Mathlib.Omega.{arith}
 use lib.ListN.{length}
 use Rattle.meaning.specs.Methods.{absolute}
-use Rattle.reading.specs.Left.{singleBy}
+use Rattle.single.specs.Left.{singleBy}
 use Rattle.singles.proofs.Few.{SingleTurn, few-single-by, FewSingle, single-start, single-turn, single-finish}
 use Rattle.singles.proofs.coarse_singles.Statement.{statement}
 use Rattle.singles.proofs.coarse_singles.Tie as tie

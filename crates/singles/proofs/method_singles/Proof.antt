@@ -2,7 +2,7 @@
 use borrow.Author.Needs.{needs}
 use mathlib.Core.Path.{ap, _∙_}
 use Prim.Native.Nat.{ℕ, _-_}
-use Rattle.reading.specs.declared.Single.{Single}
+use Rattle.single.specs.declared.Single.{Single}
 use Rattle.singles.specs.Walk.{singlesLeft, singlesTotal}
 use Rattle.singles.proofs.Plans.{single-plan}
 use Rattle.singles.proofs.method_singles.Statement.{statement}

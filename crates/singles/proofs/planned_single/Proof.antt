@@ -2,8 +2,9 @@
 use mathlib.Core.Path.{refl, sym, ap, _∙_, subst}
 use Prim.Native.Nat.{ℕ, _-_, _^_, _<_}
 use Rattle.meaning.specs.Readings.{magnitude}
-use Rattle.reading.specs.declared.Single.{Single}
-use Rattle.reading.specs.Left.{singleFrom, wanted, tailAdded}
+use Rattle.reading.specs.Left.{wanted, tailAdded}
+use Rattle.single.specs.declared.Single.{Single}
+use Rattle.single.specs.Left.{singleFrom}
 use Rattle.loops.proofs.Few.{add-below}
 use Rattle.singles.specs.Walk.{tailSingle}
 use Rattle.singles.proofs.Planned.{is-tail, is-round, is-digits, is-absolute}

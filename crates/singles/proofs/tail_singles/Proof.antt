@@ -5,7 +5,8 @@ use Prim.Native.Nat.{ℕ, _-_, _^_, _<_, zero-le}
 use native.Mathlib.Omega.{arith}
 use lib.ListN.{length, getD}
 use Rattle.meaning.specs.Readings.{magnitude}
-use Rattle.reading.specs.Left.{singleFrom, wanted, tailAdded}
+use Rattle.reading.specs.Left.{wanted, tailAdded}
+use Rattle.single.specs.Left.{singleFrom}
 use Rattle.loops.proofs.Few.{add-below}
 use Rattle.singles.specs.Walk.{tailSingle}
 use Rattle.singles.proofs.Few.{SingleTurn, few-single, FewSingle, single-start, single-turn, single-finish}

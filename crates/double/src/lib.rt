@@ -1,0 +1,150 @@
+// One double: the pattern that is left of it and what it counts for, by each method. Everything is computed first and chosen last, so that a loop over these functions
+// has no branch on the data. Internal: the calls open to users are those of the crates above.
+ghost use mathlib.Core.Path.{_≡_};
+ghost use mathlib.Core.Bool.{cond};
+ghost use Prim.Native.Nat.{_-_, _/_, _*_, _^_, _<_, _≤_};
+ghost use lib.Dec.{eqb, ltb};
+ghost use Rattle.meaning.specs.Readings.{magnitude, infinity};
+ghost use Rattle.meaning.specs.Methods.{halfshaved, round, absolute, digits};
+ghost use Rattle.powers.specs.Table.{powers};
+ghost use Rattle.reading.specs.Left.{wanted, tailAdded};
+ghost use Rattle.double.specs.Left.{doubleFrom, doubleBy};
+
+// What is left of a double, and four numbers of 0 or 1: whether it is changed, whether it or its result is the mark, whether it is clipped, whether it is missing.
+pub struct Double {
+    pub pattern: u64,
+    pub changed: u64,
+    pub marked: u64,
+    pub clipped: u64,
+    pub missing: u64,
+}
+
+// `yes` where a and b are equal, `no` where they differ.
+pub fn choose_double(a: u64, b: u64, yes: u64, no: u64) -> u64
+    ensures { λ r. ⌜ r ≡ cond (eqb a b) yes no ⌝ }
+{
+    if a == b { yes } else { no }
+}
+
+// The reading x whose new pattern would be z: x itself where it is missing or z is the mark. `over` is 1 where z is clipped.
+pub fn settle_double(x: u64, z: u64, over: u64, mark: u64) -> Double
+    ensures { λ r. ⌜ r ≡ doubleFrom mark x z over ⌝ }
+{
+    let y = choose_double(x, mark, x, z);
+    let p = choose_double(y, mark, x, y);
+    let changed = choose_double(p, x, 0, 1);
+    let marked = choose_double(y, mark, 1, 0);
+    let clipped = choose_double(p, x, 0, over);
+    let missing = choose_double(x, mark, 1, 0);
+    Double {
+        pattern: p,
+        changed,
+        marked,
+        clipped,
+        missing,
+    }
+}
+
+// 2^t.
+pub fn power_double(t: u32) -> u64
+    requires { ⌜ t ≤ 52 ⌝ }
+    ensures { λ r. ⌜ r ≡ 2 ^ t ⌝ }
+{
+    1u64 << t
+}
+
+// m cut down to a multiple of `unit`.
+fn floor_double(m: u64, unit: u64) -> u64
+    requires { ⌜ 0 < unit ⌝ }
+    ensures { λ r. ⌜ r ≡ m / unit * unit ⌝ }
+{
+    m / unit * unit
+}
+
+// `yes` where m is a finite magnitude, `no` where it isn't.
+pub fn below_double(m: u64, yes: u64, no: u64) -> u64
+    ensures { λ r. ⌜ r ≡ cond (ltb m (infinity 52 11)) yes no ⌝ }
+{
+    if m < 0x7ff0_0000_0000_0000 { yes } else { no }
+}
+
+// Methods 0 to 3: the tail of t bits becomes `add`, and zero stays. The sign stands above every tail, so the whole pattern is cut.
+pub fn tail_double(x: u64, t: u32, add: u64, mark: u64) -> Double
+    requires { ⌜ (t ≤ 52) × (add < 2 ^ t) ⌝ }
+    ensures { λ r. ⌜ r ≡ doubleFrom mark x (wanted 52 11 x (tailAdded t add (magnitude 52 11 x))) 0 ⌝ }
+{
+    let m = x % 0x8000_0000_0000_0000;
+    let unit = power_double(t);
+    let s = floor_double(x, unit);
+    let y = choose_double(m, 0, x, s + add);
+    let z = below_double(m, y, x);
+    settle_double(x, z, 0, mark)
+}
+
+// Method 4 with a tail of t bits, not none: half a unit less one is added, and one more where the bit above the tail is one; then the tail is cut off.
+pub fn round_double(x: u64, t: u32, mark: u64) -> Double
+    requires { ⌜ (1 ≤ t) × (t ≤ 52) ⌝ }
+    ensures { λ r. ⌜ r ≡ doubleBy (round (52 - t)) mark 0 x ⌝ }
+{
+    let m = x % 0x8000_0000_0000_0000;
+    let unit = power_double(t);
+    let half = power_double(t - 1);
+    let odd = m / unit % 2;
+    let up = floor_double(m + (half - 1) + odd, unit);
+    let s = floor_double(m, unit);
+    let n = below_double(up, up, s);
+    let over = below_double(up, 0, 1);
+    let z = below_double(m, (x - m) + n, x);
+    settle_double(x, z, over, mark)
+}
+
+// Method 5 with the unit 2^q, in least spacings, for the units that the float adder serves.
+pub fn fine_double(x: u64, q: u64, mark: u64) -> Double
+    requires { ⌜ q ≤ 2044 ⌝ }
+    ensures { λ r. ⌜ r ≡ doubleBy (absolute q) mark 0 x ⌝ }
+{
+    let m = x % 0x8000_0000_0000_0000;
+    let a = below_double(m, m, 0);
+    let n = absolute::fine_double(a, q);
+    let z = below_double(m, (x - m) + n, x);
+    settle_double(x, z, 0, mark)
+}
+
+// Method 5 with any unit 2^q.
+pub fn coarse_double(x: u64, q: u64, mark: u64) -> Double
+    ensures { λ r. ⌜ r ≡ doubleBy (absolute q) mark 0 x ⌝ }
+{
+    let m = x % 0x8000_0000_0000_0000;
+    let a = below_double(m, m, 0);
+    let step = absolute::coarse_double(a, q);
+    let z = below_double(m, (x - m) + step.magnitude, x);
+    settle_double(x, z, step.clipped, mark)
+}
+
+// Method 3 on a magnitude that is not zero: the tail of t bits becomes a one and zeros.
+fn halfshave_double(m: u64, t: u32) -> u64
+    requires { ⌜ ((0 < m) × (m < infinity 52 11)) × (t ≤ 52) ⌝ }
+    ensures { λ r. ⌜ r ≡ halfshaved t m ⌝ }
+{
+    if t == 0 {
+        return m;
+    }
+    let unit = power_double(t);
+    let half = power_double(t - 1);
+    floor_double(m, unit) + half
+}
+
+// Method 6 with n digits: method 3 with the tail that the reading's decade gives.
+pub fn digit_double(table: &[u64; 633], x: u64, n: u32, mark: u64) -> Double
+    requires { ⌜ ((1 ≤ n) × (n ≤ 15)) × (now table ≡ powers) ⌝ }
+    ensures { λ r. ⌜ r ≡ doubleBy (digits n) mark 0 x ⌝ }
+{
+    let m = x % 0x8000_0000_0000_0000;
+    let b = below_double(m, m, 1);
+    let a = choose_double(b, 0, 1, b);
+    let t = powers::double_tail(table, a, n);
+    let h = halfshave_double(a, t);
+    let k = choose_double(m, 0, 0, h);
+    let z = below_double(m, (x - m) + k, x);
+    settle_double(x, z, 0, mark)
+}

@@ -1,0 +1,182 @@
+// One single: the pattern that is left of it and what it counts for, by each method. Everything is computed first and chosen last, so that a loop over these functions
+// has no branch on the data. Internal: the calls open to users are those of the crates above.
+ghost use mathlib.Core.Path.{_≡_};
+ghost use mathlib.Core.Bool.{cond};
+ghost use Prim.Native.Nat.{_-_, _/_, _*_, _^_, _<_, _≤_};
+ghost use lib.Dec.{eqb, ltb};
+ghost use Rattle.meaning.specs.Readings.{magnitude, infinity};
+ghost use Rattle.meaning.specs.Methods.{halfshaved, round, absolute, digits};
+ghost use Rattle.powers.specs.Table.{powers};
+ghost use Rattle.powers.specs.Fields.{Limits, Masks};
+ghost use Rattle.reading.specs.Left.{wanted, tailAdded};
+ghost use Rattle.single.specs.Left.{singleFrom, singleBy, subnormal};
+
+// What is left of a single, and four numbers of 0 or 1: whether it is changed, whether it or its result is the mark, whether it is clipped, whether it is missing.
+pub struct Single {
+    pub pattern: u32,
+    pub changed: u32,
+    pub marked: u32,
+    pub clipped: u32,
+    pub missing: u32,
+}
+
+// `yes` where a and b are equal, `no` where they differ.
+pub fn choose_single(a: u32, b: u32, yes: u32, no: u32) -> u32
+    ensures { λ r. ⌜ r ≡ cond (eqb a b) yes no ⌝ }
+{
+    if a == b { yes } else { no }
+}
+
+// The reading x whose new pattern would be z: x itself where it is missing or z is the mark. `over` is 1 where z is clipped.
+pub fn settle_single(x: u32, z: u32, over: u32, mark: u32) -> Single
+    ensures { λ r. ⌜ r ≡ singleFrom mark x z over ⌝ }
+{
+    let hit = choose_single(z, mark, 1, 0);
+    let marked = choose_single(x, mark, 1, hit);
+    let p = choose_single(marked, 0, z, x);
+    let changed = choose_single(p, x, 0, 1);
+    let clipped = choose_single(p, x, 0, over);
+    let missing = choose_single(x, mark, 1, 0);
+    Single {
+        pattern: p,
+        changed,
+        marked,
+        clipped,
+        missing,
+    }
+}
+
+// 2^t.
+pub fn power_single(t: u32) -> u32
+    requires { ⌜ t ≤ 23 ⌝ }
+    ensures { λ r. ⌜ r ≡ 2 ^ t ⌝ }
+{
+    1u32 << t
+}
+
+// m cut down to a multiple of `unit`.
+fn floor_single(m: u32, unit: u32) -> u32
+    requires { ⌜ 0 < unit ⌝ }
+    ensures { λ r. ⌜ r ≡ m / unit * unit ⌝ }
+{
+    m / unit * unit
+}
+
+// `yes` where m is a finite magnitude, `no` where it isn't.
+pub fn below_single(m: u32, yes: u32, no: u32) -> u32
+    ensures { λ r. ⌜ r ≡ cond (ltb m (infinity 23 8)) yes no ⌝ }
+{
+    if m < 0x7f80_0000 { yes } else { no }
+}
+
+// Methods 0 to 3: the tail of t bits becomes `add`, and zero stays. The sign stands above every tail, so the whole pattern is cut.
+pub fn tail_single(x: u32, t: u32, add: u32, mark: u32) -> Single
+    requires { ⌜ (t ≤ 23) × (add < 2 ^ t) ⌝ }
+    ensures { λ r. ⌜ r ≡ singleFrom mark x (wanted 23 8 x (tailAdded t add (magnitude 23 8 x))) 0 ⌝ }
+{
+    let m = x % 0x8000_0000;
+    let unit = power_single(t);
+    let s = floor_single(x, unit);
+    let y = choose_single(m, 0, x, s + add);
+    let z = below_single(m, y, x);
+    settle_single(x, z, 0, mark)
+}
+
+// Method 4 with a tail of t bits, not none: half a unit less one is added, and one more where the bit above the tail is one; then the tail is cut off.
+pub fn round_single(x: u32, t: u32, mark: u32) -> Single
+    requires { ⌜ (1 ≤ t) × (t ≤ 23) ⌝ }
+    ensures { λ r. ⌜ r ≡ singleBy (round (23 - t)) mark 0 x ⌝ }
+{
+    let m = x % 0x8000_0000;
+    let unit = power_single(t);
+    let half = power_single(t - 1);
+    let odd = m / unit % 2;
+    let up = floor_single(m + (half - 1) + odd, unit);
+    let s = floor_single(m, unit);
+    let n = below_single(up, up, s);
+    let over = below_single(up, 0, 1);
+    let z = below_single(m, (x - m) + n, x);
+    settle_single(x, z, over, mark)
+}
+
+// Method 5 with the unit 2^q, in least spacings, for the units that the float adder serves.
+pub fn fine_single(x: u32, q: u32, mark: u32) -> Single
+    requires { ⌜ q ≤ 252 ⌝ }
+    ensures { λ r. ⌜ r ≡ singleBy (absolute q) mark 0 x ⌝ }
+{
+    let m = x % 0x8000_0000;
+    let a = below_single(m, m, 0);
+    let n = absolute::fine_single(a, q);
+    let z = below_single(m, (x - m) + n, x);
+    settle_single(x, z, 0, mark)
+}
+
+// Method 5 with any unit 2^q.
+pub fn coarse_single(x: u32, q: u32, mark: u32) -> Single
+    ensures { λ r. ⌜ r ≡ singleBy (absolute q) mark 0 x ⌝ }
+{
+    let m = x % 0x8000_0000;
+    let a = below_single(m, m, 0);
+    let step = absolute::coarse_single(a, q);
+    let z = below_single(m, (x - m) + step.magnitude, x);
+    settle_single(x, z, step.clipped, mark)
+}
+
+// Method 3 on a magnitude that is not zero: the tail of t bits becomes a one and zeros.
+fn halfshave_single(m: u32, t: u32) -> u32
+    requires { ⌜ ((0 < m) × (m < infinity 23 8)) × (t ≤ 23) ⌝ }
+    ensures { λ r. ⌜ r ≡ halfshaved t m ⌝ }
+{
+    if t == 0 {
+        return m;
+    }
+    let unit = power_single(t);
+    let half = power_single(t - 1);
+    floor_single(m, unit) + half
+}
+
+// Method 6 with n digits: method 3 with the tail that the reading's decade gives.
+pub fn digit_single(table: &[u64; 633], x: u32, n: u32, mark: u32) -> Single
+    requires { ⌜ ((1 ≤ n) × (n ≤ 7)) × (now table ≡ powers) ⌝ }
+    ensures { λ r. ⌜ r ≡ singleBy (digits n) mark 0 x ⌝ }
+{
+    let m = x % 0x8000_0000;
+    let b = below_single(m, m, 1);
+    let a = choose_single(b, 0, 1, b);
+    let t = powers::single_tail(table, a, n);
+    let h = halfshave_single(a, t);
+    let k = choose_single(m, 0, 0, h);
+    let z = below_single(m, (x - m) + k, x);
+    settle_single(x, z, 0, mark)
+}
+
+// 1 where a single is subnormal and not zero, 0 elsewhere.
+pub fn subnormal_single(x: u32) -> u32
+    ensures { λ r. ⌜ r ≡ subnormal 23 8 x ⌝ }
+{
+    let m = x % 0x8000_0000;
+    if m == 0 {
+        return 0;
+    }
+    if m < 0x80_0000 { 1 } else { 0 }
+}
+
+// 0 where m is below the limit, 1 elsewhere.
+fn decade_single(m: u32, limit: u32) -> usize
+    ensures { λ r. ⌜ r ≡ cond (ltb m limit) 0 1 ⌝ }
+{
+    if m < limit { 0 } else { 1 }
+}
+
+// Method 6 with n digits on a single that isn't subnormal, by the tables of the exponent fields: the limit says which mask, and the mask's bits become a one and zeros.
+pub fn field_single(limits: &[u32; 256], masks: &[u32; 512], x: u32, n: u32, mark: u32) -> Single
+    requires { ⌜ ((1 ≤ n) × (n ≤ 7)) × (Limits (now limits)) × (Masks n (now masks)) × (subnormal 23 8 x ≡ 0) ⌝ }
+    ensures { λ r. ⌜ r ≡ singleBy (digits n) mark 0 x ⌝ }
+{
+    let m = x % 0x8000_0000;
+    let f = (m >> 23) as usize;
+    let s = decade_single(m, limits[f]);
+    let ones = masks[f * 2 + s];
+    let z = x - (m & ones) + (ones + 1) / 2;
+    settle_single(x, z, 0, mark)
+}
