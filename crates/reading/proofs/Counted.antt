@@ -9,7 +9,7 @@ use native.Mathlib.Omega.{arith}
 use borrow.Author.Tests.{eq-eqb, ne-eqb, leb-true, ltb-true, lt-ltb, le-ltb}
 use lib.Dec.{eqb}
 use lib.Pow.{pow-pos}
-use Rattle.meaning.specs.Readings.{size, sign, magnitude, pattern, infinity, largest, finite, missing, present}
+use Rattle.meaning.specs.Readings.{size, sign, magnitude, infinity, largest, finite, missing, present}
 use Rattle.meaning.specs.Methods.{Method, tail, round, absolute, digits, nearest, shaved, rounded, multiple, clips, newMagnitude, result, trimmable, spared, trimmed, changed, clipped}
 use Rattle.meaning.proofs.Sizes.{size-le}
 use Rattle.meaning.proofs.Patterns.{magnitude-pattern}

@@ -1,4 +1,4 @@
--- Methods 0 to 4 on machine words: what the functions compute is what the definitions say, for every width.
+-- The methods on machine words: what the functions compute is what the definitions say, for every width.
 use mathlib.Core.Path.{_≡_, refl, sym, ap, ap₂, _∙_, subst}
 use mathlib.Core.Logic.{_≢_}
 use mathlib.Core.Bool.{Bool, true, false, cond}
@@ -10,7 +10,7 @@ use borrow.Author.Tests.{eq-eqb, ne-eqb, lt-ltb, le-ltb, lt-leb, le-leb}
 use lib.Dec.{ltb, leb, eqb}
 use lib.Pow.{pow-pos}
 use Rattle.meaning.specs.Readings.{sign, magnitude, pattern, infinity, finite}
-use Rattle.meaning.specs.Methods.{Method, digits, halfshaved, round, nearest, shaved, rounded, clips, newMagnitude}
+use Rattle.meaning.specs.Methods.{Method, digits, halfshaved, round, shaved, rounded, clips, newMagnitude}
 use Rattle.meaning.proofs.Powers.{pow-split}
 use Rattle.meaning.proofs.Nearest.{nearest-add}
 use Rattle.reading.specs.Left.{unlessMissing, leftFrom, wanted, wantedBy, over, tailAdded}
