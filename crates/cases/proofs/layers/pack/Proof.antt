@@ -1,0 +1,58 @@
+use lib.Seq.{length-take-le}
+use mathlib.Core.Path.{sym}
+use borrow.Author.Needs.{needs}
+use Rattle.cases.proofs.layers.pack.Statement.{statement}
+use Rattle.cases.proofs.layers.pack.Tie as tie
+
+array-share-prefix-readings : tie.Need-array-share-prefix-readings
+array-share-prefix-readings c = search needs
+
+slice-aggregate-pack : tie.Need-slice-aggregate-pack
+slice-aggregate-pack c = sym (length-take-le _ _ (array-share-prefix-readings (c .before)))
+
+array-borrow-prefix-c : tie.Need-array-borrow-prefix-c
+array-borrow-prefix-c c = search needs
+
+slice-aggregate-pack-2 : tie.Need-slice-aggregate-pack-2
+slice-aggregate-pack-2 c = sym (length-take-le _ _ (c .before .before .pre .1))
+
+array-borrow-prefix-r : tie.Need-array-borrow-prefix-r
+array-borrow-prefix-r c = search needs
+
+slice-aggregate-pack-3 : tie.Need-slice-aggregate-pack-3
+slice-aggregate-pack-3 c = sym (length-take-le _ _ (c .before .before .before .pre .2))
+
+array-borrow-prefix-e : tie.Need-array-borrow-prefix-e
+array-borrow-prefix-e c = search needs
+
+slice-aggregate-pack-4 : tie.Need-slice-aggregate-pack-4
+slice-aggregate-pack-4 c = sym (length-take-le _ _ (c .before .before .before .before .pre .3))
+
+pack-requires : tie.Need-pack-requires
+pack-requires c κs = search needs
+
+packed-number-requires : tie.Need-packed-number-requires
+packed-number-requires c κs = search needs
+
+patterns-requires : tie.Need-patterns-requires
+patterns-requires c κs = search needs
+
+returns : tie.Need-returns
+returns c = search needs
+
+pub pack-spec : {M : Type 1} → statement M
+pack-spec =
+    tie.close
+    (tie.spec
+    array-share-prefix-readings
+    slice-aggregate-pack
+    array-borrow-prefix-c
+    slice-aggregate-pack-2
+    array-borrow-prefix-r
+    slice-aggregate-pack-3
+    array-borrow-prefix-e
+    slice-aggregate-pack-4
+    pack-requires
+    packed-number-requires
+    patterns-requires
+    returns)

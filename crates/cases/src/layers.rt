@@ -1,0 +1,301 @@
+// The kinds of cases about packing and unpacking, with up to four readings. Each function runs a row's case on the library, prints it, and answers whether it is right.
+ghost use Prim.Native.Nat.{_≤_};
+use crate::trims::same_singles;
+use table::fields::MARK;
+use table::fields::MARK_DOUBLE;
+use table::fields::codes;
+use table::fields::count;
+use table::fields::decimal;
+use table::fields::doubles;
+use table::fields::exponents;
+use table::fields::length_of;
+use table::fields::mark_double;
+use table::fields::refusal;
+use table::fields::signed;
+use table::fields::single;
+use table::fields::singles;
+use table::line::answered;
+use table::line::double_at;
+use table::line::end;
+use table::line::expecting;
+use table::line::getting;
+use table::line::judge;
+use table::line::put_codes;
+use table::line::put_doubles;
+use table::line::put_exponents;
+use table::line::put_number;
+use table::line::put_signed;
+use table::line::put_singles;
+use table::line::put_text;
+use table::line::single_at;
+use table::line::start;
+use table::line::start_list;
+
+// A reference by its pattern. A NaN has none, and is 0 here.
+fn value(pattern: u32) -> f32 {
+    if pattern % 0x80000000 > 0x7F800000 {
+        return 0.0;
+    }
+    f32::from_bits(pattern)
+}
+
+// A reference's pattern. The library stores no NaN; one would show as 7FC00000.
+fn pattern(x: f32) -> u32 {
+    if x == x {
+        return f32::to_bits(x);
+    }
+    0x7FC00000
+}
+
+fn values(patterns: [u32; 4]) -> [f32; 4] {
+    [
+        value(patterns[0]),
+        value(patterns[1]),
+        value(patterns[2]),
+        value(patterns[3]),
+    ]
+}
+
+fn patterns(all: [f32; 4]) -> [u32; 4] {
+    [
+        pattern(all[0]),
+        pattern(all[1]),
+        pattern(all[2]),
+        pattern(all[3]),
+    ]
+}
+
+fn same_codes(a: [u16; 4], b: [u16; 4]) -> bool {
+    a[0] == b[0] && a[1] == b[1] && a[2] == b[2] && a[3] == b[3]
+}
+
+fn same_exponents(a: [i32; 4], b: [i32; 4]) -> bool {
+    a[0] == b[0] && a[1] == b[1] && a[2] == b[2] && a[3] == b[3]
+}
+
+fn same_doubles(a: [u64; 4], b: [u64; 4]) -> bool {
+    a[0] == b[0] && a[1] == b[1] && a[2] == b[2] && a[3] == b[3]
+}
+
+// What a packing left, in zeros, and the refusal's number, 0 for none.
+pub struct Packs {
+    pub number: u32,
+    pub references: [u32; 4],
+    pub exponents: [i32; 4],
+    pub codes: [u16; 4],
+}
+
+fn packed_number(answer: packing::Packed) -> u32 {
+    match answer {
+        packing::Packed::Done => 0,
+        packing::Packed::Refused(n) => n,
+    }
+}
+
+// n readings packed into arrays of the lengths given, each at most 4.
+fn pack(
+    readings: [u32; 4],
+    n: usize,
+    length: usize,
+    codes: usize,
+    references: usize,
+    exponents: usize,
+) -> Packs
+    requires { ⌜ (n ≤ 4) × (codes ≤ 4) × (references ≤ 4) × (exponents ≤ 4) ⌝ }
+{
+    let mut c = [0u16; 4];
+    let mut r = [0.0f32; 4];
+    let mut e = [0i32; 4];
+    let answer = packing::pack(
+        &readings[..n],
+        MARK,
+        length,
+        &mut c[..codes],
+        &mut r[..references],
+        &mut e[..exponents],
+    );
+    let number = packed_number(answer);
+    let bits = patterns(r);
+    Packs {
+        number,
+        references: bits,
+        exponents: e,
+        codes: c,
+    }
+}
+
+fn put_layers(
+    at: usize,
+    references: [u32; 4],
+    exponents: [i32; 4],
+    layers: usize,
+    codes: [u16; 4],
+    n: usize,
+) -> usize {
+    let at = put_singles(put_text(at, b" R"), references, layers);
+    let at = put_exponents(put_text(at, b" E"), exponents, layers);
+    put_codes(put_text(at, b" codes"), codes, n)
+}
+
+// readings|source|L|readings|references|step exponents|codes
+// Singles packed into as many layers as there are references, with document 01's mark.
+pub fn layers(row: &[u8]) -> bool {
+    let length = decimal(row, 2);
+    let readings = singles(row, 3);
+    let n = count(row, 3);
+    let references = singles(row, 4);
+    let number = count(row, 4);
+    let steps = exponents(row, 5);
+    let all = codes(row, 6);
+    let got = pack(readings, n, length as usize, n, number, number);
+    let got_references = got.references;
+    let got_steps = got.exponents;
+    let got_codes = got.codes;
+    let at = put_text(put_singles(start_list(row), readings, n), b" L ");
+    put_number(at, length);
+    end();
+    put_layers(expecting(), references, steps, number, all, n);
+    end();
+    let at = put_layers(getting(), got_references, got_steps, number, got_codes, n);
+    let ok = same_singles(got_references, references)
+        && same_exponents(got_steps, steps)
+        && same_codes(got_codes, all);
+    judge(row, put_text(at, b" "), ok)
+}
+
+fn put_count(at: usize, n: usize, what: &[u8]) -> usize {
+    let at = put_number(put_text(at, b", "), n as u64);
+    put_text(put_text(at, b" "), what)
+}
+
+// pack|source|L|readings|codes|references|exponents|number
+// Packing's questions, with document 01's mark: lengths of the arrays, at most 4, and the refusal's number, or 0.
+pub fn asked_pack(row: &[u8]) -> bool {
+    let length = decimal(row, 2);
+    let n = count(row, 3);
+    let codes = length_of(row, 4);
+    let references = length_of(row, 5);
+    let exponents = length_of(row, 6);
+    let at = put_number(put_text(start(row), b"pack, L "), length);
+    let at = put_count(at, n, b"readings");
+    let at = put_count(at, codes, b"codes");
+    let at = put_count(at, references, b"R");
+    let at = put_count(at, exponents, b"E");
+    let readings = singles(row, 3);
+    let got = pack(readings, n, length as usize, codes, references, exponents);
+    answered(row, at, refusal(row, 7), got.number, true)
+}
+
+// What an unpacking left, in zeros, and the refusal's number, 0 for none.
+pub struct Unpacks {
+    pub number: u32,
+    pub readings: [u64; 4],
+}
+
+fn unpacked_number(answer: unpacking::Unpacked) -> u32 {
+    match answer {
+        unpacking::Unpacked::Done => 0,
+        unpacking::Unpacked::Refused(n) => n,
+    }
+}
+
+// Arrays of the lengths given, each at most 4, unpacked.
+fn unpack(
+    codes: [u16; 4],
+    n: usize,
+    references: [u32; 4],
+    m: usize,
+    exponents: [i32; 4],
+    k: usize,
+    length: usize,
+    mark: u64,
+    readings: usize,
+) -> Unpacks
+    requires { ⌜ (n ≤ 4) × (m ≤ 4) × (k ≤ 4) × (readings ≤ 4) ⌝ }
+{
+    let r = values(references);
+    let mut x = [0u64; 4];
+    let answer = unpacking::unpack(
+        &codes[..n],
+        &r[..m],
+        &exponents[..k],
+        length,
+        mark,
+        &mut x[..readings],
+    );
+    let number = unpacked_number(answer);
+    Unpacks {
+        number,
+        readings: x,
+    }
+}
+
+// codes|source|codes|reference|step exponent|mark|what must come
+// The codes of one layer, unpacked into doubles.
+pub fn unpacked(row: &[u8]) -> bool {
+    let all = codes(row, 2);
+    let n = count(row, 2);
+    let references = singles(row, 3);
+    let steps = exponents(row, 4);
+    let missing = mark_double(row, 5);
+    let expected = doubles(row, 6);
+    let got = unpack(all, n, references, 1, steps, 1, n, missing, n);
+    let readings = got.readings;
+    let at = put_layers(start_list(row), references, steps, 1, all, n);
+    double_at(put_text(at, b" mark"), 0, missing);
+    end();
+    put_doubles(expecting(), expected, n);
+    end();
+    let at = put_text(put_doubles(getting(), readings, n), b" ");
+    judge(row, at, same_doubles(readings, expected))
+}
+
+// unpack|source|L|codes|references|exponents|readings|number
+// Unpacking's questions on lengths of the arrays, at most 4: the refusal's number, or 0.
+pub fn asked_unpack(row: &[u8]) -> bool {
+    let length = decimal(row, 2);
+    let codes = length_of(row, 3);
+    let references = length_of(row, 4);
+    let exponents = length_of(row, 5);
+    let readings = length_of(row, 6);
+    let at = put_number(put_text(start(row), b"unpack, L "), length);
+    let at = put_count(at, codes, b"codes");
+    let at = put_count(at, references, b"R");
+    let at = put_count(at, exponents, b"E");
+    let at = put_count(at, readings, b"readings");
+    let got = unpack(
+        [0; 4],
+        codes,
+        [0; 4],
+        references,
+        [0; 4],
+        exponents,
+        length as usize,
+        MARK_DOUBLE,
+        readings,
+    );
+    answered(row, at, refusal(row, 7), got.number, true)
+}
+
+// values|source|reference|step exponent|mark|number
+// Unpacking's questions on a layer of one code and on the double mark.
+pub fn asked_layer(row: &[u8]) -> bool {
+    let reference = single(row, 2);
+    let exponent = signed(row, 3);
+    let missing = mark_double(row, 4);
+    let at = single_at(put_text(start(row), b"unpack, R"), 0, reference);
+    let at = put_signed(put_text(at, b", E "), exponent);
+    let at = double_at(put_text(at, b", mark"), 0, missing);
+    let got = unpack(
+        [0; 4],
+        1,
+        [reference; 4],
+        1,
+        [exponent; 4],
+        1,
+        1,
+        missing,
+        1,
+    );
+    answered(row, at, refusal(row, 5), got.number, true)
+}

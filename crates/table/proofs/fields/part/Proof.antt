@@ -1,0 +1,57 @@
+use borrow.Author.Needs.{needs}
+use Prim.Native.Nat.{_-_, _≤_}
+use Rattle.table.proofs.fields.part.Statement.{statement}
+use Rattle.table.proofs.fields.part.Tie as tie
+
+abbrev Inv-loop : tie.InvT-loop
+Inv-loop s k stop at₀ i₀ at i = i ≤ k
+
+abbrev μ-loop : tie.MeasureT-loop
+μ-loop s k stop at₀ i₀ at i = k - i
+
+loop-holds : tie.Need-loop-holds Inv-loop μ-loop
+loop-holds c = search needs
+
+piece-requires : tie.Need-piece-requires Inv-loop μ-loop
+piece-requires c κs = search needs
+
+add-i : tie.Need-add-i Inv-loop μ-loop
+add-i c = search needs
+
+loop-less : tie.Need-loop-less Inv-loop μ-loop
+loop-less c = search needs
+
+loop-again : tie.Need-loop-again Inv-loop μ-loop
+loop-again c = search needs
+
+piece-requires-2 : tie.Need-piece-requires-2 Inv-loop μ-loop
+piece-requires-2 c κs = search needs
+
+sub-result : tie.Need-sub-result Inv-loop μ-loop
+sub-result c = search needs
+
+part-result-start : tie.Need-part-result-start Inv-loop μ-loop
+part-result-start c = search needs
+
+part-result-end : tie.Need-part-result-end Inv-loop μ-loop
+part-result-end c = search needs
+
+returns : tie.Need-returns Inv-loop μ-loop
+returns c = search needs
+
+pub part-spec : {M : Type 1} → statement M
+part-spec =
+    tie.close
+    (tie.spec
+    Inv-loop
+    μ-loop
+    loop-holds
+    piece-requires
+    add-i
+    loop-less
+    loop-again
+    piece-requires-2
+    sub-result
+    part-result-start
+    part-result-end
+    returns)
