@@ -15,8 +15,8 @@ use Rattle.meaning.proofs.Powers.{pow-split}
 use Rattle.meaning.proofs.Sizes.{Form, form, size-form, size-small}
 use Rattle.meaning.proofs.Patterns.{below-finite, size-below, position-plus, position-minus}
 use Rattle.absolute.proofs.Fine.{offset-value}
-use Rattle.unpacking.proofs.Codes.{sign-plus, sign-minus}
-use Rattle.unpacking.proofs.References.{bits-value}
+use Rattle.decoding.proofs.Codes.{sign-plus, sign-minus}
+use Rattle.decoding.proofs.References.{bits-value}
 use Rattle.codes.specs.Cut.{CanCode}
 use Rattle.quick.specs.Coarse.{Coarse}
 use Rattle.quick.proofs.Doubles.{Short, Apart, Gap, apart, code-bits}

@@ -13,7 +13,7 @@ use Rattle.meaning.specs.Readings.{magnitude, infinity}
 use Rattle.meaning.proofs.Patterns.{below-finite}
 use Rattle.absolute.proofs.NotNan.{Number, add-number}
 use Rattle.absolute.proofs.Fine.{offset-value}
-use Rattle.unpacking.proofs.References.{bits-value}
+use Rattle.decoding.proofs.References.{bits-value}
 use Rattle.summary.proofs.Patterns.{no-nan}
 use Rattle.quick.proofs.Doubles.{neg-value}
 

@@ -18,8 +18,8 @@ use Rattle.meaning.proofs.Accepted.{and-first, and-second}
 use Rattle.asking.specs.LayerAsked.{layerRefusal}
 use Rattle.asking.proofs.Layers.{layers-asked, lengths}
 use Rattle.unpacking.specs.Answers.{refusalOf}
-use Rattle.unpacking.specs.Floats.{finiteFloat, stepExponent}
-use Rattle.unpacking.proofs.References.{pattern-finite}
+use Rattle.decoding.specs.Floats.{finiteFloat, stepExponent}
+use Rattle.decoding.proofs.References.{pattern-finite}
 use Rattle.unpacking.proofs.Turns.{unpackedBy, Known}
 
 -- every element is a single

@@ -1,22 +1,17 @@
--- x - x == 0.0 is true of the finite values and of nothing else; and what is no NaN: a finite value, and a code unpacked in a layer of finite values.
+-- x - x == 0.0 is true of the finite values and of nothing else.
 use mathlib.Core.Path.{_≡_, refl, sym, _∙_, subst}
-use mathlib.Core.Bool.{Bool, true, false, cond, not, Bool·beq, _&&_, true≢false}
-use Prim.Native.Nat.{ℕ, _+_, _-_, _*_, _^_, _<_, _≤_}
+use mathlib.Core.Bool.{Bool, true, false, cond, not, Bool·beq, _&&_}
+use Prim.Native.Nat.{ℕ, _+_, _-_, _*_, _^_, _<_}
 use native.Mathlib.Nat.{mul-pos, zero-mul, mul-one, eq-of-mul-eq-mul-right}
 use native.Mathlib.Omega.{arith}
 use borrow.Author.Tests.{eq-eqb, le-ltb}
-use lib.Dec.{ltb, eqb}
+use lib.Dec.{ltb}
 use lib.IntN.{pos}
 use lib.Pow.{pow-pos}
-use lib.Ieee.{Float, nan, inf, fin, binary32, binary64, up, down, unlike, round, sum, sub, mul, ofInt, add, eq, isNan}
-use lib.Ieee.Back.{round-whole}
+use lib.Ieee.{Float, nan, inf, fin, binary32, up, down, round, sum, sub, eq}
 use lib.Ieee.Exact.{HasValue, round-exact}
 use lib.Ieee.Fits.{down-pos}
-use Rattle.absolute.proofs.NotNan.{Number, round-number, add-number}
-use Rattle.unpacking.specs.declared.Layer.{Layer}
-use Rattle.unpacking.specs.Floats.{finiteFloat, Finite, unpacked}
-
--- ---- the test
+use Rattle.decoding.specs.Floats.{finiteFloat}
 
 zero-sum : (s : Bool) (a c : ℕ) → 0 < c → HasValue (sum binary32 s a (not s) a c) false 0 c
 unfolding sum
@@ -54,36 +49,3 @@ difference (fin s m e) =
     let a = m * up e * down e in
     let p = mul-pos (down-pos e) (down-pos e) in
     eq-zero (sum binary32 s a (not s) a (down e * down e)) (down e * down e) p (zero-sum s a (down e * down e) p)
-
--- ---- no NaN
-
-pub finite-number : (x : Float) → finiteFloat x ≡ true → Number x
-unfolding isNan
-finite-number nan e = absurd (true≢false (sym e))
-finite-number (inf s) e = absurd (true≢false (sym e))
-finite-number (fin s m d) e = tt
-
-pub value-finite : (x : Float) (s : Bool) (a c : ℕ) → HasValue x s a c → finiteFloat x ≡ true
-value-finite nan s a c h = absurd h
-value-finite (inf t) s a c h = absurd h
-value-finite (fin t m e) s a c h = refl
-
-mul-number : (x y : Float) → finiteFloat x ≡ true → finiteFloat y ≡ true → Number (mul binary64 x y)
-unfolding mul
-mul-number nan y p q = absurd (true≢false (sym p))
-mul-number (inf s) y p q = absurd (true≢false (sym p))
-mul-number (fin s m e) nan p q = absurd (true≢false (sym q))
-mul-number (fin s m e) (inf t) p q = absurd (true≢false (sym q))
-mul-number (fin s m e) (fin t n d) p q = round-number binary64 (unlike s t) (m * up e * (n * up d)) (down e * down d)
-
-sum-number : (x y : Float) → Number x → finiteFloat y ≡ true → Number (add binary64 x y)
-sum-number x nan p q = absurd (true≢false (sym q))
-sum-number x (inf t) p q = absurd (true≢false (sym q))
-sum-number x (fin t n d) p q = add-number binary64 x (fin t n d) t (n * up d) (down d) p (refl, refl)
-
-pub unpacked-number : (l : Layer) (code : ℕ) → code ≤ 2 ^ 53 → Finite l → Number (unpacked l code)
-unfolding unpacked ofInt
-unpacked-number l code h k =
-    let x = round binary64 false code 1 in
-    sum-number (mul binary64 x (l .step)) (l .reference)
-    (mul-number x (l .step) (value-finite x false code 1 (round-whole binary64 false code h)) (k .step)) (k .reference)

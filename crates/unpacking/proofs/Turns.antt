@@ -17,9 +17,9 @@ use Rattle.meaning.specs.Calls.{storedLayer}
 use Rattle.meaning.proofs.Accepted.{and-first, and-second}
 use Rattle.parts.proofs.Back.{back, length-back, take-back}
 use Rattle.asking.proofs.Layers.{Lengths}
-use Rattle.unpacking.specs.declared.Layer.{Layer}
-use Rattle.unpacking.specs.Floats.{finiteFloat, stepExponent, twoTo, decoded}
-use Rattle.unpacking.proofs.Codes.{code-decoded}
+use Rattle.decoding.specs.declared.Layer.{Layer}
+use Rattle.decoding.specs.Floats.{finiteFloat, stepExponent, twoTo, decoded}
+use Rattle.decoding.proofs.Codes.{code-decoded}
 
 -- ---- elements of lists
 

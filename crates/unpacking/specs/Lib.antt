@@ -1,3 +1,2 @@
--- What the code computes by floats; what it answers.
-pub mod Floats
+-- What the code answers.
 pub mod Answers

@@ -1,19 +1,12 @@
-// Unpacking layers of 16-bit codes into doubles: the code as a double, times the layer's step, plus its reference, so that only the addition rounds.
+// Unpacking layers of 16-bit codes into doubles: the questions first, then layer by layer. How one layer's codes become doubles is in `decoding`.
 ghost use mathlib.Core.Path.{_≡_};
-ghost use mathlib.Core.Bool.{true, _&&_};
+ghost use mathlib.Core.Bool.{_&&_};
 ghost use mathlib.Core.List.{map};
-ghost use lib.ListN.{length};
 ghost use lib.Ieee.{binary32, toBits};
 ghost use Rattle.meaning.specs.Questions.{all, isNan};
 ghost use Rattle.meaning.specs.Calls.{unpack};
-ghost use Rattle.unpacking.specs.Floats.{finiteFloat, stepExponent, twoTo, unpacked, Finite, decoded};
+ghost use Rattle.decoding.specs.Floats.{finiteFloat, stepExponent};
 ghost use Rattle.unpacking.specs.Answers.{answerOf, refusalOf};
-
-// A layer's reference and step, which travel together.
-pub struct Layer {
-    pub reference: f32,
-    pub step: f64,
-}
 
 // Is the single finite?
 fn is_finite(x: f32) -> bool
@@ -99,44 +92,6 @@ fn ask_values(lengths: u32, references: &[f32], exponents: &[i32], mark: u64) ->
     0
 }
 
-// 2^exponent as a double, made by its pattern.
-fn step_of(exponent: i32) -> f64
-    requires { ⌜ stepExponent exponent ≡ true ⌝ }
-    ensures { λ r. ⌜ r ≡ twoTo exponent ⌝ }
-{
-    f64::from_bits(((exponent + 1023) as u64) << 52)
-}
-
-// The value of a code in a layer.
-fn value_of(l: Layer, code: u16) -> f64
-    requires { ⌜ Finite l ⌝ }
-    ensures { λ r. ⌜ r ≡ unpacked l code ⌝ }
-{
-    (code as f64) * l.step + (l.reference as f64)
-}
-
-// A code unpacked to a double's pattern; a missing one becomes the mark.
-fn unpack_code(l: Layer, code: u16, mark: u64) -> u64
-    requires { ⌜ Finite l ⌝ }
-    ensures { λ r. ⌜ r ≡ decoded l mark code ⌝ }
-{
-    // computed before it is chosen, so that a loop over this has no branch
-    let double = f64::to_bits(value_of(l, code));
-    if code == 65535 { mark } else { double }
-}
-
-// One layer: its doubles go into the lent part.
-fn unpack_layer(codes: &[u16], l: Layer, mark: u64, readings: &mut [u64])
-    requires { ⌜ Finite l × (length (now codes) ≡ length (now readings)) ⌝ }
-    ensures { λ _. ⌜ now (readings .exit) ≡ map (decoded l mark) (now (codes .entry)) ⌝ }
-{
-    let mut i: usize = 0;
-    while i < codes.len() {
-        readings[i] = unpack_code(l, codes[i], mark);
-        i += 1;
-    }
-}
-
 // The answer of an unpacking: done, or the refusal's number.
 pub enum Unpacked {
     Done,
@@ -175,10 +130,10 @@ pub fn unpack(
         let e = a + length;
         let reference = references[i];
         let exponent = exponents[i];
-        let step = step_of(exponent);
-        let l = Layer { reference, step };
+        let step = decoding::step_of(exponent);
+        let l = decoding::Layer { reference, step };
         let part = &codes[a..e];
-        unpack_layer(part, l, mark, &mut readings[a..e]);
+        decoding::unpack_layer(part, l, mark, &mut readings[a..e]);
         a = e;
         i += 1;
     }

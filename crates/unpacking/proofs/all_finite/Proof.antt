@@ -5,7 +5,7 @@ use native.Mathlib.Omega.{arith}
 use borrow.Author.Tests.{not-true, not-false}
 use lib.ListN.{length}
 use lib.Ieee.{nan}
-use Rattle.unpacking.specs.Floats.{finiteFloat}
+use Rattle.decoding.specs.Floats.{finiteFloat}
 use Rattle.unpacking.proofs.Every.{Left, left-passes, left-fails, left-none}
 use Rattle.unpacking.proofs.all_finite.Statement.{statement}
 use Rattle.unpacking.proofs.all_finite.Tie as tie

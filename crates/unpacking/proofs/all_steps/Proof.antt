@@ -9,7 +9,7 @@ use lib.ListN.{length, getD}
 use mir.Facts.{toZ-ofZ}
 use mir.Syntax.{w32}
 use mir.Val.{SFits}
-use Rattle.unpacking.specs.Floats.{stepExponent}
+use Rattle.decoding.specs.Floats.{stepExponent}
 use Rattle.unpacking.proofs.Every.{Left, left-passes, left-fails, left-none}
 use Rattle.unpacking.proofs.all_steps.Statement.{statement}
 use Rattle.unpacking.proofs.all_steps.Tie as tie

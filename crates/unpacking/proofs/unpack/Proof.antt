@@ -10,7 +10,7 @@ use mir.Syntax.{w32}
 use mir.Val.{SFits}
 use Rattle.meaning.specs.Questions.{refused}
 use Rattle.unpacking.specs.Answers.{answerOf}
-use Rattle.unpacking.specs.Floats.{finiteFloat, stepExponent, twoTo}
+use Rattle.decoding.specs.Floats.{finiteFloat, stepExponent, twoTo}
 use Rattle.unpacking.proofs.Calls.{Singles, refused-call, accepted-call, known}
 use Rattle.unpacking.proofs.Turns.{Turn, Below, start, fits-in, exponent-there, exponent-step, reference-finite, turn, finish}
 use Rattle.unpacking.proofs.unpack.Statement.{statement}

@@ -10,7 +10,7 @@ use Rattle.meaning.specs.Readings.{origin}
 use Rattle.meaning.specs.Layers.{codeMeaning, nearestDouble}
 use Rattle.meaning.specs.Questions.{above, between}
 use Rattle.meaning.specs.Calls.{storedLayer}
-use Rattle.unpacking.specs.declared.Layer.{Layer}
+use Rattle.decoding.specs.declared.Layer.{Layer}
 
 abbrev pub finiteFloat : Float → Bool
 finiteFloat nan = false

@@ -17,9 +17,9 @@ use lib.Ieee.Fits.{down-pos}
 use lib.Ieee.Scale.{round-same}
 use Rattle.meaning.specs.Questions.{above, between}
 use Rattle.absolute.proofs.Values.{left-cross, right-cross, minus-cross, less-cross, add-values}
-use Rattle.unpacking.specs.declared.Layer.{Layer}
-use Rattle.unpacking.specs.Floats.{twoTo, unpacked}
-use Rattle.unpacking.proofs.Steps.{most, least}
+use Rattle.decoding.specs.declared.Layer.{Layer}
+use Rattle.decoding.specs.Floats.{twoTo, unpacked}
+use Rattle.decoding.proofs.Steps.{most, least}
 
 -- ---- products and differences by value
 

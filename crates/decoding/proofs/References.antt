@@ -13,7 +13,7 @@ use lib.Ieee.Bits.{ofBits-toBits}
 use lib.Ieee.Exact.{HasValue}
 use Rattle.meaning.specs.Readings.{exponentField, fraction, size, magnitude, infinity, finite}
 use Rattle.absolute.proofs.Values.{exponentBits, infinity-is, fields-value}
-use Rattle.unpacking.specs.Floats.{finiteFloat}
+use Rattle.decoding.specs.Floats.{finiteFloat}
 
 odd-finite : (d : ℕ) (s : Bool) (q k l : ℕ) → finiteFloat (odd d s q k l) ≡ true
 unfolding odd

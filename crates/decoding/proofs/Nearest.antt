@@ -20,8 +20,8 @@ use Rattle.meaning.proofs.Patterns.{magnitudeOf-size, magnitudeOf-floor}
 use Rattle.meaning.proofs.Sizes.{Form, form, size-at, size-form}
 use Rattle.absolute.proofs.Adding.{grid-is}
 use Rattle.absolute.proofs.Values.{exponentBits, infinity-is, signed-bits}
-use Rattle.unpacking.specs.Floats.{finiteFloat}
-use Rattle.unpacking.proofs.Finite.{value-finite}
+use Rattle.decoding.specs.Floats.{finiteFloat}
+use Rattle.decoding.proofs.Numbers.{value-finite}
 
 -- a rounded value with its sign
 round-value : (f : Format) (s : Bool) (a c : ℕ) → grid f a c < overflow f → HasValue (round f s a c) s (grid f a c) (2 ^ low f)

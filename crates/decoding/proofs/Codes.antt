@@ -22,11 +22,11 @@ use Rattle.meaning.specs.Calls.{storedLayer}
 use Rattle.meaning.proofs.Nearest.{nearest-multiple}
 use Rattle.meaning.proofs.Sizes.{size-small}
 use Rattle.meaning.proofs.Patterns.{magnitudeOf-size, finite-below, position-plus, position-minus, size-below}
-use Rattle.unpacking.specs.declared.Layer.{Layer}
-use Rattle.unpacking.specs.Floats.{finiteFloat, twoTo, unpacked, decoded, RoundedOnce}
-use Rattle.unpacking.proofs.Nearest.{nearest-finite, nearest-bits, infinity-size}
-use Rattle.unpacking.proofs.References.{pattern-finite, pattern-value}
-use Rattle.unpacking.proofs.Sums.{exponent-most, product-exact, unpacked-plus, unpacked-minus}
+use Rattle.decoding.specs.declared.Layer.{Layer}
+use Rattle.decoding.specs.Floats.{finiteFloat, twoTo, unpacked, decoded, RoundedOnce}
+use Rattle.decoding.proofs.Nearest.{nearest-finite, nearest-bits, infinity-size}
+use Rattle.decoding.proofs.References.{pattern-finite, pattern-value}
+use Rattle.decoding.proofs.Sums.{exponent-most, product-exact, unpacked-plus, unpacked-minus}
 
 sign-above : (s : Bool) (m : ℕ) → cond s (2 ^ 63) 0 + m ≡ pattern 52 11 (cond s 1 0) m
 unfolding pattern

@@ -1,10 +1,10 @@
 -- `value_of` meets its contract: it is the formula itself, and the reference widens since it is no NaN.
 use mathlib.Core.Path.{refl}
 use borrow.Author.Needs.{needs}
-use Rattle.unpacking.specs.Floats.{unpacked}
-use Rattle.unpacking.proofs.Finite.{finite-number}
-use Rattle.unpacking.proofs.value_of.Statement.{statement}
-use Rattle.unpacking.proofs.value_of.Tie as tie
+use Rattle.decoding.specs.Floats.{unpacked}
+use Rattle.decoding.proofs.Numbers.{finite-number}
+use Rattle.decoding.proofs.value_of.Statement.{statement}
+use Rattle.decoding.proofs.value_of.Tie as tie
 
 int-to-float-result : tie.Need-int-to-float-result
 int-to-float-result c = search needs

@@ -4,10 +4,10 @@ use native.Mathlib.Omega.{arith}
 use borrow.Author.Tests.{eq-eqb, ne-eqb}
 use lib.Ieee.{binary64, toBits}
 use Rattle.absolute.proofs.NotNan.{Number}
-use Rattle.unpacking.specs.Floats.{decoded}
-use Rattle.unpacking.proofs.Finite.{unpacked-number}
-use Rattle.unpacking.proofs.unpack_code.Statement.{statement}
-use Rattle.unpacking.proofs.unpack_code.Tie as tie
+use Rattle.decoding.specs.Floats.{decoded}
+use Rattle.decoding.proofs.Numbers.{unpacked-number}
+use Rattle.decoding.proofs.unpack_code.Statement.{statement}
+use Rattle.decoding.proofs.unpack_code.Tie as tie
 
 value-of-requires : tie.Need-value-of-requires
 value-of-requires c κs = c .pre

@@ -4,9 +4,9 @@ use native.Mathlib.Omega.{arith}
 use mathlib.Core.Path.{_≡_, refl, sym}
 use lib.ListN.{length, length-set}
 use Rattle.parts.proofs.Fills.{Filled, filled-turn, filled-end}
-use Rattle.unpacking.specs.Floats.{decoded}
-use Rattle.unpacking.proofs.unpack_layer.Statement.{statement}
-use Rattle.unpacking.proofs.unpack_layer.Tie as tie
+use Rattle.decoding.specs.Floats.{decoded}
+use Rattle.decoding.proofs.unpack_layer.Statement.{statement}
+use Rattle.decoding.proofs.unpack_layer.Tie as tie
 
 abbrev Inv-loop : tie.InvT-loop
 Inv-loop codes l mark readings₀ i₀ readings i = (length readings ≡ length codes) × Filled (decoded l mark) codes readings i

@@ -14,7 +14,7 @@ use mir.Val.{SFits, toZ, ofZ}
 use Rattle.meaning.specs.Questions.{above, between}
 use Rattle.meaning.proofs.Accepted.{and-first}
 use Rattle.asking.proofs.Signs.{add-above}
-use Rattle.unpacking.specs.Floats.{twoTo}
+use Rattle.decoding.specs.Floats.{twoTo}
 
 -- the field x + 1, and no digits
 fields : (x : ℕ) → x < 2000 → ofBits binary64 (suc x * 2 ^ 52) ≡ ofFields binary64 false (suc x) 0

@@ -12,9 +12,9 @@ use lib.Ieee.Bits.{nanBits-above}
 use mir.Syntax.{w32, w64}
 use mir.Val.{Fits, toZ, ofZ}
 use Rattle.meaning.specs.Questions.{above}
-use Rattle.unpacking.proofs.Steps.{small, step-is, sum-fits, sum-back}
-use Rattle.unpacking.proofs.step_of.Statement.{statement}
-use Rattle.unpacking.proofs.step_of.Tie as tie
+use Rattle.decoding.proofs.Steps.{small, step-is, sum-fits, sum-back}
+use Rattle.decoding.proofs.step_of.Statement.{statement}
+use Rattle.decoding.proofs.step_of.Tie as tie
 
 -- the pattern
 pattern-is : (c : tie.Start) → natAbs (toZ w32 (ofZ w32 (toZ w32 (ofZ w32 (c .args .exponent)) +ℤ pos 1023))) * 2 ^ 52 % 2 ^ 64 ≡ above 1023 (c .args .exponent) * 2 ^ 52

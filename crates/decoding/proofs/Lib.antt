@@ -1,0 +1,7 @@
+-- The kit's rounding against document 01's; singles as references; 2^E; the float formula; one code; what is no NaN.
+pub mod Nearest
+pub mod References
+pub mod Steps
+pub mod Sums
+pub mod Codes
+pub mod Numbers

@@ -1,0 +1,2 @@
+-- What the code computes by floats.
+pub mod Floats
