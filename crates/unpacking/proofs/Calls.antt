@@ -17,7 +17,7 @@ use Rattle.meaning.specs.Calls.{leaving, unpack}
 use Rattle.meaning.proofs.Accepted.{and-first, and-second}
 use Rattle.asking.specs.LayerAsked.{layerRefusal}
 use Rattle.asking.proofs.Layers.{layers-asked, lengths}
-use Rattle.unpacking.specs.Answers.{refusalOf}
+use Rattle.asking_values.specs.Asked.{refusalOf}
 use Rattle.decoding.specs.Floats.{finiteFloat, stepExponent}
 use Rattle.decoding.proofs.References.{pattern-finite}
 use Rattle.unpacking.proofs.Turns.{unpackedBy, Known}

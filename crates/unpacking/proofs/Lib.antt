@@ -1,5 +1,3 @@
--- Tests of floats and of whole slices; the loop over layers; the whole call.
-pub mod Finite
-pub mod Every
+-- The loop over layers; the whole call.
 pub mod Turns
 pub mod Calls

@@ -4,8 +4,8 @@ use mathlib.Core.Bool.{true, false}
 use lib.IntN.{pos, negsuc}
 use lib.Signed.{leZ}
 use Rattle.asking.proofs.Signs.{below-said, above-said, le-by-lt, and-false}
-use Rattle.unpacking.proofs.is_step.Statement.{statement}
-use Rattle.unpacking.proofs.is_step.Tie as tie
+use Rattle.asking_values.proofs.is_step.Statement.{statement}
+use Rattle.asking_values.proofs.is_step.Tie as tie
 
 returns : tie.Need-returns
 returns c = let s = c .before in let z = s .args .exponent in simp (le-by-lt (negsuc 148) z true (below-said z (negsuc 148) true (s .fits .exponent) (c .if1 .taken)))

@@ -1,8 +1,8 @@
 -- `layers_known` meets its contract: by the first test.
 use mathlib.Core.Path.{sym, _∙_}
 use borrow.Author.Tests.{not-true, not-false}
-use Rattle.unpacking.proofs.layers_known.Statement.{statement}
-use Rattle.unpacking.proofs.layers_known.Tie as tie
+use Rattle.asking_values.proofs.layers_known.Statement.{statement}
+use Rattle.asking_values.proofs.layers_known.Tie as tie
 
 all-finite-requires : tie.Need-all-finite-requires
 all-finite-requires c κs = tt

@@ -1,9 +1,9 @@
 -- `ask_values` meets its contract: the tests' values, on each way.
 use mathlib.Core.Path.{sym, _∙_}
 use borrow.Author.Tests.{eq-eqb, ne-eqb, not-true, not-false}
-use Rattle.unpacking.specs.Answers.{refusalOf}
-use Rattle.unpacking.proofs.ask_values.Statement.{statement}
-use Rattle.unpacking.proofs.ask_values.Tie as tie
+use Rattle.asking_values.specs.Asked.{refusalOf}
+use Rattle.asking_values.proofs.ask_values.Statement.{statement}
+use Rattle.asking_values.proofs.ask_values.Tie as tie
 
 returns : tie.Need-returns
 unfolding refusalOf

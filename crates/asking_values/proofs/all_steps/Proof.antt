@@ -10,9 +10,9 @@ use mir.Facts.{toZ-ofZ}
 use mir.Syntax.{w32}
 use mir.Val.{SFits}
 use Rattle.decoding.specs.Floats.{stepExponent}
-use Rattle.unpacking.proofs.Every.{Left, left-passes, left-fails, left-none}
-use Rattle.unpacking.proofs.all_steps.Statement.{statement}
-use Rattle.unpacking.proofs.all_steps.Tie as tie
+use Rattle.asking_values.proofs.Every.{Left, left-passes, left-fails, left-none}
+use Rattle.asking_values.proofs.all_steps.Statement.{statement}
+use Rattle.asking_values.proofs.all_steps.Tie as tie
 
 abbrev Inv-loop : tie.InvT-loop
 Inv-loop exponents i₀ i = (i ≤ length exponents) × Left stepExponent exponents i

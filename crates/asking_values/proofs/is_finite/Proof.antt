@@ -1,8 +1,8 @@
 -- `is_finite` meets its contract: 0.0 is the zero of the test.
 use lib.Ieee.{ofBits}
-use Rattle.unpacking.proofs.Finite.{difference}
-use Rattle.unpacking.proofs.is_finite.Statement.{statement}
-use Rattle.unpacking.proofs.is_finite.Tie as tie
+use Rattle.asking_values.proofs.Finite.{difference}
+use Rattle.asking_values.proofs.is_finite.Statement.{statement}
+use Rattle.asking_values.proofs.is_finite.Tie as tie
 
 returns : tie.Need-returns
 unfolding ofBits

@@ -6,9 +6,9 @@ use borrow.Author.Tests.{not-true, not-false}
 use lib.ListN.{length}
 use lib.Ieee.{nan}
 use Rattle.decoding.specs.Floats.{finiteFloat}
-use Rattle.unpacking.proofs.Every.{Left, left-passes, left-fails, left-none}
-use Rattle.unpacking.proofs.all_finite.Statement.{statement}
-use Rattle.unpacking.proofs.all_finite.Tie as tie
+use Rattle.asking_values.proofs.Every.{Left, left-passes, left-fails, left-none}
+use Rattle.asking_values.proofs.all_finite.Statement.{statement}
+use Rattle.asking_values.proofs.all_finite.Tie as tie
 
 abbrev Inv-loop : tie.InvT-loop
 Inv-loop references i₀ i = (i ≤ length references) × Left finiteFloat references i

@@ -2,8 +2,8 @@
 use mathlib.Core.Path.{refl}
 use Rattle.meaning.specs.Readings.{magnitude, infinity}
 use Rattle.meaning.specs.Questions.{isNan}
-use Rattle.unpacking.proofs.is_nan.Statement.{statement}
-use Rattle.unpacking.proofs.is_nan.Tie as tie
+use Rattle.asking_values.proofs.is_nan.Statement.{statement}
+use Rattle.asking_values.proofs.is_nan.Tie as tie
 
 returns : tie.Need-returns
 unfolding isNan infinity magnitude

@@ -1,0 +1,3 @@
+-- Tests of floats and of whole slices.
+pub mod Finite
+pub mod Every
