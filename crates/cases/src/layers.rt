@@ -77,7 +77,10 @@ fn same_doubles(a: [u64; 4], b: [u64; 4]) -> bool {
     a[0] == b[0] && a[1] == b[1] && a[2] == b[2] && a[3] == b[3]
 }
 
-// What a packing left, in zeros, and the refusal's number, 0 for none.
+// What the arrays hold before a call whose refusal is asked for: refused, they hold it still.
+const BEFORE: u16 = 7;
+
+// What a packing left, and the refusal's number, 0 for none.
 pub struct Packs {
     pub number: u32,
     pub references: [u32; 4],
@@ -92,8 +95,9 @@ fn packed_number(answer: packing::Packed) -> u32 {
     }
 }
 
-// n readings packed into arrays of the lengths given, each at most 4.
+// n readings packed into arrays of the lengths given, each at most 4, which held `before` throughout.
 fn pack(
+    before: u16,
     readings: [u32; 4],
     n: usize,
     length: usize,
@@ -103,9 +107,9 @@ fn pack(
 ) -> Packs
     requires { ⌜ (n ≤ 4) × (codes ≤ 4) × (references ≤ 4) × (exponents ≤ 4) ⌝ }
 {
-    let mut c = [0u16; 4];
-    let mut r = [0.0f32; 4];
-    let mut e = [0i32; 4];
+    let mut c = [before; 4];
+    let mut r = [before as f32; 4];
+    let mut e = [before as i32; 4];
     let answer = packing::pack(
         &readings[..n],
         MARK,
@@ -147,7 +151,7 @@ pub fn layers(row: &[u8]) -> bool {
     let number = count(row, 4);
     let steps = exponents(row, 5);
     let all = codes(row, 6);
-    let got = pack(readings, n, length as usize, n, number, number);
+    let got = pack(0, readings, n, length as usize, n, number, number);
     let got_references = got.references;
     let got_steps = got.exponents;
     let got_codes = got.codes;
@@ -168,8 +172,18 @@ fn put_count(at: usize, n: usize, what: &[u8]) -> usize {
     put_text(put_text(at, b" "), what)
 }
 
+// Do the arrays hold what they held before?
+fn untouched(left: Packs) -> bool {
+    let references = left.references;
+    let exponents = left.exponents;
+    let codes = left.codes;
+    same_singles(references, [0x40E00000; 4])
+        && same_exponents(exponents, [BEFORE as i32; 4])
+        && same_codes(codes, [BEFORE; 4])
+}
+
 // pack|source|L|readings|codes|references|exponents|number
-// Packing's questions, with document 01's mark: lengths of the arrays, at most 4, and the refusal's number, or 0.
+// Packing's questions, with document 01's mark: lengths of the arrays, at most 4, and the refusal's number, or 0. Refused, nothing is written.
 pub fn asked_pack(row: &[u8]) -> bool {
     let length = decimal(row, 2);
     let n = count(row, 3);
@@ -182,11 +196,21 @@ pub fn asked_pack(row: &[u8]) -> bool {
     let at = put_count(at, references, b"R");
     let at = put_count(at, exponents, b"E");
     let readings = singles(row, 3);
-    let got = pack(readings, n, length as usize, codes, references, exponents);
-    answered(row, at, refusal(row, 7), got.number, true)
+    let got = pack(
+        BEFORE,
+        readings,
+        n,
+        length as usize,
+        codes,
+        references,
+        exponents,
+    );
+    let expected = refusal(row, 7);
+    let ok = expected == 0 || untouched(got);
+    answered(row, at, expected, got.number, ok)
 }
 
-// What an unpacking left, in zeros, and the refusal's number, 0 for none.
+// What an unpacking left, and the refusal's number, 0 for none.
 pub struct Unpacks {
     pub number: u32,
     pub readings: [u64; 4],
@@ -199,8 +223,9 @@ fn unpacked_number(answer: unpacking::Unpacked) -> u32 {
     }
 }
 
-// Arrays of the lengths given, each at most 4, unpacked.
+// Arrays of the lengths given, each at most 4, unpacked into one that held `before` throughout.
 fn unpack(
+    before: u16,
     codes: [u16; 4],
     n: usize,
     references: [u32; 4],
@@ -214,7 +239,7 @@ fn unpack(
     requires { ⌜ (n ≤ 4) × (m ≤ 4) × (k ≤ 4) × (readings ≤ 4) ⌝ }
 {
     let r = values(references);
-    let mut x = [0u64; 4];
+    let mut x = [before as u64; 4];
     let answer = unpacking::unpack(
         &codes[..n],
         &r[..m],
@@ -239,7 +264,7 @@ pub fn unpacked(row: &[u8]) -> bool {
     let steps = exponents(row, 4);
     let missing = mark_double(row, 5);
     let expected = doubles(row, 6);
-    let got = unpack(all, n, references, 1, steps, 1, n, missing, n);
+    let got = unpack(0, all, n, references, 1, steps, 1, n, missing, n);
     let readings = got.readings;
     let at = put_layers(start_list(row), references, steps, 1, all, n);
     double_at(put_text(at, b" mark"), 0, missing);
@@ -248,6 +273,13 @@ pub fn unpacked(row: &[u8]) -> bool {
     end();
     let at = put_text(put_doubles(getting(), readings, n), b" ");
     judge(row, at, same_doubles(readings, expected))
+}
+
+// The last columns of a case about unpacking's questions. Refused, nothing is written.
+fn refused_or(row: &[u8], at: usize, expected: u32, left: Unpacks) -> bool {
+    let readings = left.readings;
+    let ok = expected == 0 || same_doubles(readings, [BEFORE as u64; 4]);
+    answered(row, at, expected, left.number, ok)
 }
 
 // unpack|source|L|codes|references|exponents|readings|number
@@ -264,6 +296,7 @@ pub fn asked_unpack(row: &[u8]) -> bool {
     let at = put_count(at, exponents, b"E");
     let at = put_count(at, readings, b"readings");
     let got = unpack(
+        BEFORE,
         [0; 4],
         codes,
         [0; 4],
@@ -274,7 +307,7 @@ pub fn asked_unpack(row: &[u8]) -> bool {
         MARK_DOUBLE,
         readings,
     );
-    answered(row, at, refusal(row, 7), got.number, true)
+    refused_or(row, at, refusal(row, 7), got)
 }
 
 // values|source|reference|step exponent|mark|number
@@ -287,6 +320,7 @@ pub fn asked_layer(row: &[u8]) -> bool {
     let at = put_signed(put_text(at, b", E "), exponent);
     let at = double_at(put_text(at, b", mark"), 0, missing);
     let got = unpack(
+        BEFORE,
         [0; 4],
         1,
         [reference; 4],
@@ -297,5 +331,5 @@ pub fn asked_layer(row: &[u8]) -> bool {
         missing,
         1,
     );
-    answered(row, at, refusal(row, 5), got.number, true)
+    refused_or(row, at, refusal(row, 5), got)
 }

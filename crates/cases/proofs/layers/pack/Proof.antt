@@ -1,8 +1,14 @@
-use lib.Seq.{length-take-le}
-use mathlib.Core.Path.{sym}
 use borrow.Author.Needs.{needs}
+use mathlib.Core.Path.{sym}
+use lib.Seq.{length-take-le}
 use Rattle.cases.proofs.layers.pack.Statement.{statement}
 use Rattle.cases.proofs.layers.pack.Tie as tie
+
+int-to-float-r : tie.Need-int-to-float-r
+int-to-float-r c = search needs
+
+cast-e : tie.Need-cast-e
+cast-e c = search needs
 
 array-share-prefix-readings : tie.Need-array-share-prefix-readings
 array-share-prefix-readings c = search needs
@@ -14,19 +20,19 @@ array-borrow-prefix-c : tie.Need-array-borrow-prefix-c
 array-borrow-prefix-c c = search needs
 
 slice-aggregate-pack-2 : tie.Need-slice-aggregate-pack-2
-slice-aggregate-pack-2 c = sym (length-take-le _ _ (c .before .before .pre .1))
+slice-aggregate-pack-2 c = sym (length-take-le _ _ (array-borrow-prefix-c (c .before)))
 
 array-borrow-prefix-r : tie.Need-array-borrow-prefix-r
 array-borrow-prefix-r c = search needs
 
 slice-aggregate-pack-3 : tie.Need-slice-aggregate-pack-3
-slice-aggregate-pack-3 c = sym (length-take-le _ _ (c .before .before .before .pre .2))
+slice-aggregate-pack-3 c = sym (length-take-le _ _ (array-borrow-prefix-r (c .before)))
 
 array-borrow-prefix-e : tie.Need-array-borrow-prefix-e
 array-borrow-prefix-e c = search needs
 
 slice-aggregate-pack-4 : tie.Need-slice-aggregate-pack-4
-slice-aggregate-pack-4 c = sym (length-take-le _ _ (c .before .before .before .before .pre .3))
+slice-aggregate-pack-4 c = sym (length-take-le _ _ (array-borrow-prefix-e (c .before)))
 
 pack-requires : tie.Need-pack-requires
 pack-requires c κs = search needs
@@ -44,6 +50,8 @@ pub pack-spec : {M : Type 1} → statement M
 pack-spec =
     tie.close
     (tie.spec
+    int-to-float-r
+    cast-e
     array-share-prefix-readings
     slice-aggregate-pack
     array-borrow-prefix-c
