@@ -13,8 +13,9 @@ use Rattle.meaning.specs.Layers.{runs, layers, layerOf, code, packedLayers, pac
 use Rattle.meaning.specs.Calls.{storedExponent}
 use Rattle.parts.proofs.Back.{back, length-back, take-back}
 use Rattle.summary.specs.Summaries.{Packable}
-use Rattle.packing.specs.declared.Layer.{Layer}
-use Rattle.packing.specs.Packing.{PackedAs, Fit, packedReferences, packedExponents}
+use Rattle.layering.specs.declared.Layer.{Layer}
+use Rattle.layering.specs.Layering.{PackedAs}
+use Rattle.packing.specs.Packing.{Fit, packedReferences, packedExponents}
 
 -- ---- runs
 

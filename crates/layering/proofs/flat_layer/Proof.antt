@@ -1,8 +1,8 @@
 use mathlib.Core.Path.{_∙_}
 use borrow.Author.Needs.{needs}
-use Rattle.packing.proofs.One.{one-reference, one-stored, one-codes}
-use Rattle.packing.proofs.flat_layer.Statement.{statement}
-use Rattle.packing.proofs.flat_layer.Tie as tie
+use Rattle.layering.proofs.One.{one-reference, one-stored, one-codes}
+use Rattle.layering.proofs.flat_layer.Statement.{statement}
+use Rattle.layering.proofs.flat_layer.Tie as tie
 
 flat-codes-requires : tie.Need-flat-codes-requires
 flat-codes-requires c κs = search needs

@@ -2,9 +2,9 @@ use borrow.Author.Needs.{needs}
 use mathlib.Core.Path.{ap, _∙_}
 use Prim.Native.Nat.{ℕ}
 use lib.Dec.{ltb}
-use Rattle.packing.proofs.Largest.{all-finite}
-use Rattle.packing.proofs.each_packable.Statement.{statement}
-use Rattle.packing.proofs.each_packable.Tie as tie
+use Rattle.asking_readings.proofs.Largest.{all-finite}
+use Rattle.asking_readings.proofs.each_packable.Statement.{statement}
+use Rattle.asking_readings.proofs.each_packable.Tie as tie
 
 largest-magnitude-requires : tie.Need-largest-magnitude-requires
 largest-magnitude-requires c κs = search needs

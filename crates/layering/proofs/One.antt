@@ -15,7 +15,7 @@ use Rattle.meaning.specs.Layers.{Summary, Nothing, Flat, Spread, Layer, missing
 use Rattle.meaning.specs.Calls.{storedExponent}
 use Rattle.meaning.proofs.Packing.{Spans, summary-spans, code-missing, code-present}
 use Rattle.meaning.proofs.Nearest.{nearest-multiple}
-use Rattle.packing.specs.Packing.{flatCode, One}
+use Rattle.layering.specs.Layering.{flatCode, One}
 
 -- two functions that agree at every place of a list make the same list
 pub map-same : {A : Type 0} (f g : ℕ → A) (ws : List ℕ) → ((i : ℕ) → i < length ws → f (getD ws i 0) ≡ g (getD ws i 0)) → map f ws ≡ map g ws

@@ -1,7 +1,7 @@
 use borrow.Author.Needs.{needs}
-use Rattle.packing.proofs.Cases.{nothing-one, flat-one, spread-two}
-use Rattle.packing.proofs.pack_layer.Statement.{statement}
-use Rattle.packing.proofs.pack_layer.Tie as tie
+use Rattle.layering.proofs.Cases.{nothing-one, flat-one, spread-two}
+use Rattle.layering.proofs.pack_layer.Statement.{statement}
+use Rattle.layering.proofs.pack_layer.Tie as tie
 
 summary-of-requires : tie.Need-summary-of-requires
 summary-of-requires c κs = search needs

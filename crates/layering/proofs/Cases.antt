@@ -5,7 +5,7 @@ use Rattle.meaning.specs.Layers as meaning
 use Rattle.summary.specs.declared.Summary.{Summary}
 use Rattle.summary.specs.declared.Summary.the-variants as variants
 use Rattle.summary.specs.Summaries.{summaryOf}
-use Rattle.packing.specs.Packing.{One}
+use Rattle.layering.specs.Layering.{One}
 
 zero-bits : toBits binary32 (ofBits binary32 0) ≡ 0
 unfolding ofBits toBits

@@ -12,7 +12,7 @@ use lib.ListN.{length, getD, drop, drop-of-length-le}
 use lib.Seq.{drop-cons}
 use Rattle.meaning.specs.Readings.{magnitude, infinity, finite, missing}
 use Rattle.meaning.specs.Questions.{all}
-use Rattle.packing.specs.Packing.{largestPresent}
+use Rattle.asking_readings.specs.Largest.{largestPresent}
 
 -- both of two numbers are below a third where the larger is
 max-below : (a b n : ℕ) → ltb (max a b) n ≡ ltb a n && ltb b n

@@ -8,8 +8,8 @@ use lib.IntN.{ℤ, pos, subℕ, _-ℤ_}
 use mir.Syntax.{w32}
 use mir.Val.{SFits, toZ}
 use mir.Facts.{toZ-pos, toZ-ofZ}
-use Rattle.packing.proofs.stored.Statement.{statement}
-use Rattle.packing.proofs.stored.Tie as tie
+use Rattle.layering.proofs.stored.Statement.{statement}
+use Rattle.layering.proofs.stored.Tie as tie
 
 small : (e : ℕ) → e ≤ 263 → SFits w32 (subℕ e 149)
 small e h = go (decLt e 149)

@@ -4,9 +4,9 @@ use mathlib.Core.Path.{_≡_}
 use Prim.Native.Nat.{_-_}
 use lib.ListN.{length, length-set}
 use Rattle.parts.proofs.Fills.{Filled, filled-turn, filled-end}
-use Rattle.packing.specs.Packing.{flatCode}
-use Rattle.packing.proofs.flat_codes.Statement.{statement}
-use Rattle.packing.proofs.flat_codes.Tie as tie
+use Rattle.layering.specs.Layering.{flatCode}
+use Rattle.layering.proofs.flat_codes.Statement.{statement}
+use Rattle.layering.proofs.flat_codes.Tie as tie
 
 abbrev Inv-loop : tie.InvT-loop
 Inv-loop readings mark codes₀ i₀ codes i = (length codes ≡ length readings) × Filled (flatCode mark) readings codes i

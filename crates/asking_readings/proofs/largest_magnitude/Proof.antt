@@ -2,9 +2,9 @@ use borrow.Author.Needs.{needs}
 use Prim.Native.Nat.{_-_}
 use lib.ListN.{length}
 use native.Mathlib.Omega.{arith}
-use Rattle.packing.proofs.Largest.{Turn, turn, end}
-use Rattle.packing.proofs.largest_magnitude.Statement.{statement}
-use Rattle.packing.proofs.largest_magnitude.Tie as tie
+use Rattle.asking_readings.proofs.Largest.{Turn, turn, end}
+use Rattle.asking_readings.proofs.largest_magnitude.Statement.{statement}
+use Rattle.asking_readings.proofs.largest_magnitude.Tie as tie
 
 abbrev Inv-loop : tie.InvT-loop
 Inv-loop readings mark most₀ i₀ most i = Turn mark readings most i

@@ -1,8 +1,8 @@
 use mathlib.Core.Path.{refl}
 use borrow.Author.Tests.{eq-eqb, ne-eqb}
-use Rattle.packing.specs.Packing.{flatCode}
-use Rattle.packing.proofs.flat_code.Statement.{statement}
-use Rattle.packing.proofs.flat_code.Tie as tie
+use Rattle.layering.specs.Layering.{flatCode}
+use Rattle.layering.proofs.flat_code.Statement.{statement}
+use Rattle.layering.proofs.flat_code.Tie as tie
 
 returns : tie.Need-returns
 unfolding flatCode

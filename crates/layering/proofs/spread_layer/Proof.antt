@@ -7,9 +7,9 @@ use lib.Ieee.{binary32, toBits}
 use Rattle.meaning.specs.Layers.{code}
 use Rattle.summary.proofs.Patterns.{bits-number}
 use Rattle.summary.proofs.Made.{Made, made, Spreads, spreads}
-use Rattle.packing.proofs.Ready.{few, size-low, all-ready, reference-is, stored-is, codes-are}
-use Rattle.packing.proofs.spread_layer.Statement.{statement}
-use Rattle.packing.proofs.spread_layer.Tie as tie
+use Rattle.layering.proofs.Ready.{few, size-low, all-ready, reference-is, stored-is, codes-are}
+use Rattle.layering.proofs.spread_layer.Statement.{statement}
+use Rattle.layering.proofs.spread_layer.Tie as tie
 
 -- the summary by its keys, and its two values
 ends : (c : tie.After-slice-known) → Made (c .before .before .args .mark) (c .before .before .args .readings .now)
