@@ -17,7 +17,7 @@ use Rattle.meaning.proofs.Packed.{asked}
 use Rattle.asking.specs.LayerAsked.{layerRefusal}
 use Rattle.asking.proofs.Layers.{Lengths, lengths, layers-asked}
 use Rattle.summary.specs.Summaries.{Packable}
-use Rattle.packing.specs.Packing.{Fit, packedReferences, packedExponents}
+use Rattle.all_layers.specs.Arrays.{Fit, packedReferences, packedExponents}
 use Rattle.packing.specs.Answers.{packed}
 
 -- a refused call: the number, and the arrays as they were

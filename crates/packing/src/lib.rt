@@ -1,45 +1,13 @@
 // Packing: an array of singles cut into layers, each with a reference, a step and a code of 16 bits for each reading. The questions first, which are in `asking` and
-// `asking_readings`, then layer by layer. How one layer is packed is in `layering`.
+// `asking_readings`, then all layers, which are in `all_layers`.
 ghost use mathlib.Core.Path.{_≡_};
 ghost use mathlib.Core.List.{map};
 ghost use lib.Ieee.{binary32, toBits};
-ghost use Rattle.meaning.specs.Layers.{packedCodes};
-ghost use Rattle.summary.specs.Summaries.{Packable};
 ghost use Rattle.packing.specs.Answers.{answerOf, packed};
-ghost use Rattle.packing.specs.Packing.{Fit, packedReferences, packedExponents};
 
 pub enum Packed {
     Done,
     Refused(u32),
-}
-
-// Packs the layers, runs of `run` readings, one after another, each into its own part of the codes. All lengths fit, and each reading is finite or missing.
-fn pack_layers(
-    readings: &[u32],
-    mark: u32,
-    run: usize,
-    codes: &mut [u16],
-    references: &mut [f32],
-    exponents: &mut [i32],
-)
-    requires { ⌜ Fit run (now readings) (now codes) (now references) (now exponents) ⌝ }
-    requires { ⌜ Packable mark (now readings) ⌝ }
-    ensures codes { λ _. ⌜ now (codes .exit) ≡ packedCodes 23 8 16 263 mark run (now (readings .entry)) ⌝ }
-    ensures references { λ _. ⌜ map (toBits binary32) (now (references .exit)) ≡ packedReferences mark run (now (readings .entry)) ⌝ }
-    ensures exponents { λ _. ⌜ now (exponents .exit) ≡ packedExponents mark run (now (readings .entry)) ⌝ }
-{
-    let mut from: usize = 0;
-    let mut i: usize = 0;
-    while i < references.len() {
-        let to = from + run;
-        let part = &readings[from..to];
-        let layer = layering::pack_layer(part, mark, &mut codes[from..to]);
-        references[i] = layer.reference;
-        let x = layer.exponent;
-        exponents[i] = x;
-        from = to;
-        i += 1;
-    }
 }
 
 // Packs an array of singles, layer by layer. Each layer has `length` readings; the mark means missing and is compared by its bits. Each layer leaves a code for each
@@ -70,7 +38,7 @@ pub fn pack(
     }
     let good = asking_readings::each_packable(readings, mark);
     if good {
-        pack_layers(readings, mark, length, codes, references, exponents);
+        all_layers::pack_layers(readings, mark, length, codes, references, exponents);
         return Packed::Done;
     }
     Packed::Refused(6)

@@ -3,9 +3,9 @@ use borrow.Author.Needs.{needs}
 use mir.Facts.{toZ-ofZ}
 use Prim.Native.Nat.{_+_, _-_, _≤_}
 use lib.ListN.{length, length-take, length-drop}
-use Rattle.packing.proofs.Turns.{Turn, start, part-packable, room, turn, codes-end, references-end, exponents-end}
-use Rattle.packing.proofs.pack_layers.Statement.{statement}
-use Rattle.packing.proofs.pack_layers.Tie as tie
+use Rattle.all_layers.proofs.Turns.{Turn, start, part-packable, room, turn, codes-end, references-end, exponents-end}
+use Rattle.all_layers.proofs.pack_layers.Statement.{statement}
+use Rattle.all_layers.proofs.pack_layers.Tie as tie
 
 abbrev Inv-loop : tie.InvT-loop
 Inv-loop readings mark run codes₀ references₀ exponents₀ from₀ i₀ codes references exponents from i =

@@ -15,7 +15,7 @@ use Rattle.parts.proofs.Back.{back, length-back, take-back}
 use Rattle.summary.specs.Summaries.{Packable}
 use Rattle.layering.specs.declared.Layer.{Layer}
 use Rattle.layering.specs.Layering.{PackedAs}
-use Rattle.packing.specs.Packing.{Fit, packedReferences, packedExponents}
+use Rattle.all_layers.specs.Arrays.{Fit, packedReferences, packedExponents}
 
 -- ---- runs
 
