@@ -7,7 +7,7 @@ use native.Mathlib.Numerals.{add-one}
 use native.Mathlib.Omega.{arith}
 use lib.IntN.{ℤ}
 use lib.Ieee.{Float, binary32, toBits}
-use lib.ListN.{length, take, drop, set, getD, length-set, length-map, length-take, length-drop}
+use lib.ListN.{length, take, drop, set, length-set, length-map, length-take, length-drop}
 use lib.Seq.{take-suc-set, take-all, drop-drop, getD-take, getD-drop}
 use Rattle.meaning.specs.Layers.{runs, layers, layerOf, code, packedLayers, packedCodes}
 use Rattle.meaning.specs.Calls.{storedExponent}

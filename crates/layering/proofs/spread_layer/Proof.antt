@@ -1,10 +1,8 @@
-use mathlib.Core.Path.{ap, _∙_}
+use mathlib.Core.Path.{_∙_}
 use native.Mathlib.Omega.{arith}
 use borrow.Author.Needs.{needs}
 use mir.Facts.{toZ-ofZ}
-use lib.ListN.{length}
 use lib.Ieee.{binary32, toBits}
-use Rattle.meaning.specs.Layers.{code}
 use Rattle.summary.proofs.Patterns.{bits-number}
 use Rattle.summary.proofs.Made.{Made, made, Spreads, spreads}
 use Rattle.layering.proofs.Ready.{few, size-low, all-ready, reference-is, stored-is, codes-are}
