@@ -101,7 +101,7 @@ pub fn listing(input: &[u8], out: &mut [u8; 65536]) -> usize
             count,
             lines,
         } => {
-            let method = text_in::method_of(input, 20, letters);
+            let method = method_word::method_of(input, 20, letters);
             let asked = asking::ask_single(method, setting);
             if asked.refusal != 0 {
                 return text_out::put_refusal(out, asked.refusal as usize);

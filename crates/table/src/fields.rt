@@ -101,7 +101,7 @@ fn number(s: &[u8], base: u64) -> u64
     let mut i: usize = 0;
     while i < s.len() {
         if s[i] != b' ' {
-            v = v % 0x1000_0000_0000_0000 * base + (text_in::digit(s[i]) % 16) as u64;
+            v = v % 0x1000_0000_0000_0000 * base + (fields_in::digit(s[i]) % 16) as u64;
         }
         i += 1;
     }
@@ -147,9 +147,9 @@ pub fn length_of(row: &[u8], k: usize) -> usize
 }
 
 fn signed_item(row: &[u8], k: usize, j: usize) -> i32 {
-    match text_in::setting_at(item(row, k, j), 0) {
-        text_in::Setting::Is { value, next: _ } => value,
-        text_in::Setting::NoSetting => 0,
+    match fields_in::setting_at(item(row, k, j), 0) {
+        fields_in::Setting::Is { value, next: _ } => value,
+        fields_in::Setting::NoSetting => 0,
     }
 }
 
@@ -161,7 +161,7 @@ pub fn signed(row: &[u8], k: usize) -> i32 {
 // A method by its word, or by its number where it is none of the seven.
 pub fn method(row: &[u8], k: usize) -> u32 {
     let s = field(row, k);
-    let known = text_in::method_of(s, 0, s.len());
+    let known = method_word::method_of(s, 0, s.len());
     if known < 7 {
         return known;
     }

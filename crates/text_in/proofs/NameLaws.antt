@@ -13,9 +13,10 @@ use borrow.Author.Tests.{eq-eqb, ne-eqb}
 use Rattle.form.specs.Form.{bytes, JobValues, header, isLetter, isDigit}
 use Rattle.form.specs.Parse.{Got, got, bad, then, runOf, readRun, skip, afterName, readNames, followed, readJobValues, readSign, readPattern}
 use Rattle.form.specs.Output.{settingOf}
-use Rattle.text_in.specs.Places.{NamesAt, readSetting, StartAt}
+use Rattle.fields_in.specs.Fields.{readSetting}
+use Rattle.text_in.specs.Places.{NamesAt, StartAt}
 use Rattle.form.proofs.Reading.{skip-sound}
-use Rattle.text_in.proofs.Walk.{run-take, run-short}
+use Rattle.fields_in.proofs.Walk.{run-take, run-short}
 use Rattle.text_in.proofs.RowLaws.{byte-within}
 
 never : {A : Type 0} (a : A) (s : List ℕ) → got a s ≡ bad → ⊥

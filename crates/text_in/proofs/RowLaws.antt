@@ -9,7 +9,7 @@ use Rattle.form.specs.Form.{pattern}
 use Rattle.form.specs.Parse.{Got, got, bad, then, readPattern, skip, ending, readRow}
 use Rattle.text_in.specs.Places.{spread, RowAt}
 use Rattle.form.proofs.Reading.{pattern-sound, skip-sound}
-use Rattle.text_in.proofs.Walk.{length-hex}
+use Rattle.fields_in.proofs.Walk.{length-hex}
 
 -- what was read stood there
 pub pattern-within : (t : List ℕ) (p v : ℕ) (r : List ℕ) → p ≤ length t → readPattern (drop p t) ≡ got v r → p + 8 ≤ length t

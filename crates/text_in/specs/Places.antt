@@ -1,19 +1,13 @@
 -- Reading at a place: what a reader's answer says of the text from that place on.
-use Prim.Native.Nat.{ℕ, suc, _+_, _-_, _*_, _≤_, _<_}
+use Prim.Native.Nat.{ℕ, suc, _+_, _-_, _*_, _≤_}
 use mathlib.Core.Path.{_≡_}
 use mathlib.Core.Bool.{Bool, true, false}
 use mathlib.Core.List.{List, [], _∷_, map}
 use lib.IntN.{ℤ}
 use lib.ListN.{length, take, drop, set}
-use Rattle.form.specs.Form.{line, isDigit, JobValues}
-use Rattle.form.specs.Parse.{Got, got, bad, then, readRun, readSign, readRow, readRows, readNames, readJobValues, parse}
-use Rattle.form.specs.Output.{upTo, columns, numberOf, settingOf}
-use Rattle.text_in.specs.declared.Pattern.{Pattern}
-use Rattle.text_in.specs.declared.Pattern.the-variants.{At, Bad}
-use Rattle.text_in.specs.declared.Number.{Number}
-use Rattle.text_in.specs.declared.Number.the-variants.{Value, NoNumber}
-use Rattle.text_in.specs.declared.Setting.{Setting}
-use Rattle.text_in.specs.declared.Setting.the-variants.{Is, NoSetting}
+use Rattle.form.specs.Form.{line, JobValues}
+use Rattle.form.specs.Parse.{Got, got, bad, readRow, readRows, readNames, readJobValues, parse}
+use Rattle.form.specs.Output.{upTo, columns, settingOf}
 use Rattle.text_in.specs.declared.Rows.{Rows}
 use Rattle.text_in.specs.declared.Rows.the-variants.{Lines, BadRows}
 use Rattle.text_in.specs.declared.Names.{Names}
@@ -24,34 +18,6 @@ use Rattle.text_in.specs.declared.Reading.{Reading}
 use Rattle.text_in.specs.declared.Reading.the-variants.{Good, Wrong}
 use Rattle.text_in.specs.declared.Row.{Row}
 use Rattle.text_in.specs.declared.Row.the-variants.{Next, BadRow}
-
-abbrev pub patternGot : List ℕ → ℕ → Pattern → Got ℕ
-patternGot t at (At v) = got v (drop (at + 8) t)
-patternGot t at Bad = bad
-
--- the number of 1 to 4 digits
-unfoldable pub readNumber : List ℕ → Got ℕ
-readNumber s = then (readRun isDigit 4 s) (λ d s. got (numberOf 0 d) s)
-
-abbrev pub numberGot : List ℕ → Number → Got ℕ
-numberGot t (Value v next) = got v (drop next t)
-numberGot t NoNumber = bad
-
-abbrev pub NumberSmall : Number → Type 0
-NumberSmall (Value v next) = v < 10000
-NumberSmall NoNumber = Unit {0}
-
--- the setting's value
-unfoldable pub readSetting : List ℕ → Got ℤ
-readSetting s = then (readSign s) (λ m s. then (readRun isDigit 4 s) (λ d s. got (settingOf m d) s))
-
-abbrev pub settingGot : List ℕ → Setting → Got ℤ
-settingGot t (Is z next) = got z (drop next t)
-settingGot t NoSetting = bad
-
-abbrev pub skipGot : List ℕ → ℕ → Bool → Got (Unit {0})
-skipGot t at true = got tt (drop (at + 1) t)
-skipGot t at false = bad
 
 -- values laid at place q, q + 512, q + 1024 ..
 unfoldable pub spread : List ℕ → ℕ → List ℕ → List ℕ

@@ -11,7 +11,7 @@ use Rattle.form.specs.Form.{bytes, line, after, pattern, valueLines}
 use Rattle.form.specs.Parse.{ending}
 use Rattle.form.specs.Output.{columns, decimal, printed}
 use Rattle.text_in.specs.Places.{areaSeries}
-use Rattle.text_in.proofs.Walk.{length-hex}
+use Rattle.fields_in.proofs.Walk.{length-hex}
 use Rattle.text_out.specs.Places.{paste, field, gather, gathered}
 use Rattle.text_out.proofs.Paste.{paste-none, length-paste}
 use Rattle.text_out.proofs.PutLaws.{paste-paste}

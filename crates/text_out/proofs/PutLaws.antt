@@ -9,7 +9,7 @@ use lib.Seq.{take-at, drop-at, drop-drop, length-take-le}
 use Rattle.form.specs.Form.{line, after, pattern, hexText}
 use Rattle.form.specs.Parse.{ending}
 use Rattle.text_out.specs.Places.{paste, gather}
-use Rattle.text_in.proofs.Walk.{length-hex}
+use Rattle.fields_in.proofs.Walk.{length-hex}
 use Rattle.text_out.proofs.Paste.{paste-none, paste-back, length-paste}
 
 -- a run after a run

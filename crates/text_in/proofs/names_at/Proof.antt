@@ -6,13 +6,11 @@ use borrow.Author.Needs.{needs}
 use Rattle.text_in.proofs.RowLaws.{byte-within}
 use Rattle.text_in.proofs.NameLaws.{NamesTurn, names-start, names-none, names-last, names-turn, names-bad, names-many, run-within}
 use Rattle.form.specs.Form.{isLetter}
-use Rattle.text_in.specs.Places.{skipGot}
+use Rattle.fields_in.specs.Fields.{skipGot}
 use Rattle.text_in.proofs.names_at.Statement.{statement}
 use Rattle.text_in.proofs.names_at.Tie as tie
 use Rattle.text_in.proofs.names_at.Reads as reads
 use Rattle.text_in.proofs.names_at.Lts as lts
-use Rattle.text_in.proofs.ending_at.Reads as ending-at-reads
-use Rattle.text_in.proofs.letters_at.Reads as letters-at-reads
 
 abbrev Inv-loop : tie.InvT-loop
 Inv-loop s at k₀ p₀ k p = NamesTurn s at k p

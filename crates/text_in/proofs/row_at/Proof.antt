@@ -4,13 +4,11 @@ use mathlib.Core.Path.{ap, _∙_}
 use lib.ListN.{length, take, drop}
 use borrow.Author.Needs.{needs}
 use Rattle.text_in.proofs.RowLaws.{RowTurn, row-start, row-room, row-bad, row-unended, row-turn, row-done, pattern-within, byte-within}
-use Rattle.text_in.specs.Places.{patternGot, skipGot}
+use Rattle.fields_in.specs.Fields.{patternGot, skipGot}
 use Rattle.text_in.proofs.row_at.Statement.{statement}
 use Rattle.text_in.proofs.row_at.Tie as tie
 use Rattle.text_in.proofs.row_at.Reads as reads
 use Rattle.text_in.proofs.row_at.Lts as lts
-use Rattle.text_in.proofs.ending_at.Reads as ending-at-reads
-use Rattle.text_in.proofs.pattern_at.Reads as pattern-at-reads
 
 abbrev Inv-loop : tie.InvT-loop
 Inv-loop s at n row work₀ j₀ p₀ q₀ work j p q = RowTurn s at n row work₀ work j p q

@@ -10,15 +10,12 @@ use mir.Facts.{toZ-ofZ}
 use Rattle.text_in.proofs.RowLaws.{byte-within, pattern-within}
 use Rattle.text_in.proofs.NameLaws.{run-within, start-none, start-unparted, start-unset, start-unparted-2, start-unmarked, start-unended, start-done}
 use Rattle.form.specs.Form.{isLetter}
-use Rattle.text_in.specs.Places.{skipGot, settingGot, patternGot, StartAt}
+use Rattle.fields_in.specs.Fields.{skipGot, settingGot, patternGot}
+use Rattle.text_in.specs.Places.{StartAt}
 use Rattle.text_in.proofs.start_at.Statement.{statement}
 use Rattle.text_in.proofs.start_at.Tie as tie
 use Rattle.text_in.proofs.start_at.Reads as reads
 use Rattle.text_in.proofs.start_at.Lts as lts
-use Rattle.text_in.proofs.ending_at.Reads as ending-at-reads
-use Rattle.text_in.proofs.letters_at.Reads as letters-at-reads
-use Rattle.text_in.proofs.pattern_at.Reads as pattern-at-reads
-use Rattle.text_in.proofs.setting_at.Reads as setting-at-reads
 
 letters-at-requires : tie.Need-letters-at-requires
 letters-at-requires c κs = search needs

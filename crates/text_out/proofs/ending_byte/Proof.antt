@@ -2,7 +2,7 @@ use Prim.Native.Nat.{_-_}
 use mathlib.Core.Path.{sym, ap}
 use lib.ListN.{take}
 use Rattle.form.specs.Parse.{ending}
-use Rattle.text_in.proofs.Walk.{ending-more}
+use Rattle.fields_in.proofs.Walk.{ending-more}
 use Rattle.text_out.proofs.ending_byte.Statement.{statement}
 use Rattle.text_out.proofs.ending_byte.Tie as tie
 use Rattle.text_out.proofs.ending_byte.Reads as reads

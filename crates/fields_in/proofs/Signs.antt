@@ -16,7 +16,7 @@ use borrow.Author.Tests.{eq-eqb, ne-eqb, lt-ltb}
 use Rattle.form.specs.Form.{isDigit}
 use Rattle.form.specs.Parse.{Got, got, bad, then, runOf, readRun, readSign}
 use Rattle.form.specs.Output.{numberOf, settingOf}
-use Rattle.text_in.specs.Places.{readNumber, readSetting}
+use Rattle.fields_in.specs.Fields.{readNumber, readSetting}
 
 abbrev negated : ℕ → ℤ
 negated n = negℤ (pos n)

@@ -2,13 +2,13 @@ use Prim.Native.Nat.{_-_}
 use mathlib.Core.Path.{ap, _∙_, subst}
 use lib.ListN.{take, set}
 use borrow.Author.Needs.{needs}
-use Rattle.text_in.proofs.Signs.{as-signed, minus-fits, setting-none, setting-minus, setting-minus-none, setting-plain, setting-plain-none}
-use Rattle.text_in.specs.Places.{NumberSmall, numberGot}
-use Rattle.text_in.proofs.setting_at.Statement.{statement}
-use Rattle.text_in.proofs.setting_at.Tie as tie
-use Rattle.text_in.proofs.setting_at.Reads as reads
-use Rattle.text_in.proofs.setting_at.Lts as lts
-use Rattle.text_in.proofs.number_at.Reads as number-at-reads
+use Rattle.fields_in.proofs.Signs.{as-signed, minus-fits, setting-none, setting-minus, setting-minus-none, setting-plain, setting-plain-none}
+use Rattle.fields_in.specs.Fields.{NumberSmall, numberGot}
+use Rattle.fields_in.proofs.setting_at.Statement.{statement}
+use Rattle.fields_in.proofs.setting_at.Tie as tie
+use Rattle.fields_in.proofs.setting_at.Reads as reads
+use Rattle.fields_in.proofs.setting_at.Lts as lts
+use Rattle.fields_in.proofs.number_at.Reads as number-at-reads
 
 returns : tie.Need-returns
 returns c = setting-none (c .before .before .args .s .now) (c .before .before .args .at) (c .if1 .taken)

@@ -3,12 +3,12 @@ use native.Mathlib.Omega.{arith}
 use mathlib.Core.Path.{sym, _∙_}
 use lib.ListN.{take}
 use borrow.Author.Needs.{needs}
-use Rattle.text_in.proofs.Walk.{NumberTurn, number-start, number-none, number-room, number-turn, number-done, number-small}
-use Rattle.text_in.proofs.number_at.Statement.{statement}
-use Rattle.text_in.proofs.number_at.Tie as tie
-use Rattle.text_in.proofs.number_at.Reads as reads
-use Rattle.text_in.proofs.number_at.Lts as lts
-use Rattle.text_in.proofs.digits_at.Reads as digits-at-reads
+use Rattle.fields_in.proofs.Walk.{NumberTurn, number-start, number-none, number-room, number-turn, number-done, number-small}
+use Rattle.fields_in.proofs.number_at.Statement.{statement}
+use Rattle.fields_in.proofs.number_at.Tie as tie
+use Rattle.fields_in.proofs.number_at.Reads as reads
+use Rattle.fields_in.proofs.number_at.Lts as lts
+use Rattle.fields_in.proofs.digits_at.Reads as digits-at-reads
 
 abbrev Inv-loop : tie.InvT-loop
 Inv-loop s at n v₀ i₀ v i = NumberTurn s at n v i

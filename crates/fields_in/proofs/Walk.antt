@@ -13,7 +13,7 @@ use borrow.Author.Tests.{leb-true, le-leb, lt-leb, eq-eqb, ne-eqb}
 use Rattle.form.specs.Form.{hexText, isDigit}
 use Rattle.form.specs.Parse.{got, bad, then, runOf, readRun, digitOf, readHex, readPattern, skip, ending}
 use Rattle.form.specs.Output.{numberOf}
-use Rattle.text_in.specs.Places.{readNumber}
+use Rattle.fields_in.specs.Fields.{readNumber}
 
 -- ---- eight hexadecimal digits: v is made of the first i, and the rest is still to be read
 pub record HexTurn (s : List ℕ) (at v i : ℕ) : Type 0 where

@@ -2,12 +2,12 @@ use mathlib.Core.Path.{sym, _∙_}
 use borrow.Author.Needs.{needs}
 use Rattle.form.specs.Form.{bytes}
 use Rattle.form.specs.Output.{methodWords, methodNumber}
-use Rattle.text_in.proofs.WordLaws.{place-here, place-later, place-none}
-use Rattle.text_in.proofs.method_of.Statement.{statement}
-use Rattle.text_in.proofs.method_of.Tie as tie
-use Rattle.text_in.proofs.method_of.Reads as reads
-use Rattle.text_in.proofs.method_of.Lts as lts
-use Rattle.text_in.proofs.word_is.Reads as word-is-reads
+use Rattle.method_word.proofs.WordLaws.{place-here, place-later, place-none}
+use Rattle.method_word.proofs.method_of.Statement.{statement}
+use Rattle.method_word.proofs.method_of.Tie as tie
+use Rattle.method_word.proofs.method_of.Reads as reads
+use Rattle.method_word.proofs.method_of.Lts as lts
+use Rattle.method_word.proofs.word_is.Reads as word-is-reads
 
 slice-aggregate-word-is : tie.Need-slice-aggregate-word-is
 slice-aggregate-word-is c = search needs

@@ -1,10 +1,10 @@
 use Prim.Native.Nat.{_-_}
 use borrow.Author.Needs.{needs}
-use Rattle.text_in.proofs.WordLaws.{WordTurn, word-long, word-start, word-stopped, word-turn, word-done}
-use Rattle.text_in.proofs.word_is.Statement.{statement}
-use Rattle.text_in.proofs.word_is.Tie as tie
-use Rattle.text_in.proofs.word_is.Reads as reads
-use Rattle.text_in.proofs.word_is.Lts as lts
+use Rattle.method_word.proofs.WordLaws.{WordTurn, word-long, word-start, word-stopped, word-turn, word-done}
+use Rattle.method_word.proofs.word_is.Statement.{statement}
+use Rattle.method_word.proofs.word_is.Tie as tie
+use Rattle.method_word.proofs.word_is.Reads as reads
+use Rattle.method_word.proofs.word_is.Lts as lts
 
 abbrev Inv-loop : tie.InvT-loop
 Inv-loop s at n word i₀ i = WordTurn s at n word i

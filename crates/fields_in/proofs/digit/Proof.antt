@@ -3,10 +3,10 @@ use native.Mathlib.Omega.{arith}
 use borrow.Author.Needs.{needs}
 use borrow.Author.Tests.{le-leb, lt-leb}
 use Rattle.form.specs.Parse.{digitOf}
-use Rattle.text_in.proofs.digit.Statement.{statement}
-use Rattle.text_in.proofs.digit.Tie as tie
-use Rattle.text_in.proofs.digit.Reads as reads
-use Rattle.text_in.proofs.digit.Lts as lts
+use Rattle.fields_in.proofs.digit.Statement.{statement}
+use Rattle.fields_in.proofs.digit.Tie as tie
+use Rattle.fields_in.proofs.digit.Reads as reads
+use Rattle.fields_in.proofs.digit.Lts as lts
 
 cast-result : tie.Need-cast-result
 cast-result c = search needs

@@ -2,12 +2,12 @@ use Prim.Native.Nat.{_-_}
 use native.Mathlib.Omega.{arith}
 use lib.ListN.{take}
 use borrow.Author.Needs.{needs}
-use Rattle.text_in.proofs.Walk.{HexTurn, hex-start, hex-room, hex-ended, hex-stopped, hex-turn, hex-done}
-use Rattle.text_in.proofs.pattern_at.Statement.{statement}
-use Rattle.text_in.proofs.pattern_at.Tie as tie
-use Rattle.text_in.proofs.pattern_at.Reads as reads
-use Rattle.text_in.proofs.pattern_at.Lts as lts
-use Rattle.text_in.proofs.digit.Reads as digit-reads
+use Rattle.fields_in.proofs.Walk.{HexTurn, hex-start, hex-room, hex-ended, hex-stopped, hex-turn, hex-done}
+use Rattle.fields_in.proofs.pattern_at.Statement.{statement}
+use Rattle.fields_in.proofs.pattern_at.Tie as tie
+use Rattle.fields_in.proofs.pattern_at.Reads as reads
+use Rattle.fields_in.proofs.pattern_at.Lts as lts
+use Rattle.fields_in.proofs.digit.Reads as digit-reads
 
 abbrev Inv-loop : tie.InvT-loop
 Inv-loop s at v₀ i₀ v i = HexTurn s at v i

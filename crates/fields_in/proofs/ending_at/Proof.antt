@@ -3,12 +3,12 @@ use mathlib.Core.Path.{ap, _∙_}
 use mathlib.Core.List.{[], _∷_}
 use lib.ListN.{take, drop}
 use borrow.Author.Needs.{needs}
-use Rattle.text_in.proofs.Walk.{skip-ended, skip-yes, skip-no, ending-more}
+use Rattle.fields_in.proofs.Walk.{skip-ended, skip-yes, skip-no, ending-more}
 use Rattle.form.specs.Parse.{skip, ending}
-use Rattle.text_in.proofs.ending_at.Statement.{statement}
-use Rattle.text_in.proofs.ending_at.Tie as tie
-use Rattle.text_in.proofs.ending_at.Reads as reads
-use Rattle.text_in.proofs.ending_at.Lts as lts
+use Rattle.fields_in.proofs.ending_at.Statement.{statement}
+use Rattle.fields_in.proofs.ending_at.Tie as tie
+use Rattle.fields_in.proofs.ending_at.Reads as reads
+use Rattle.fields_in.proofs.ending_at.Lts as lts
 
 returns : tie.Need-returns
 returns c = skip-ended _ _ _ (c .if1 .taken)

@@ -1,0 +1,3 @@
+-- Laws of the readers of fields.
+pub mod Walk
+pub mod Signs

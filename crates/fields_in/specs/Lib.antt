@@ -1,0 +1,2 @@
+-- What the answers of the readers of fields say of a text.
+pub mod Fields

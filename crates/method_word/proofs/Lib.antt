@@ -1,0 +1,2 @@
+-- Laws of comparing words.
+pub mod WordLaws
