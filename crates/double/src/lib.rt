@@ -142,7 +142,7 @@ pub fn digit_double(table: &[u64; 633], x: u64, n: u32, mark: u64) -> Double
     let m = x % 0x8000_0000_0000_0000;
     let b = below_double(m, m, 1);
     let a = choose_double(b, 0, 1, b);
-    let t = powers::double_tail(table, a, n);
+    let t = digit_tails::double_tail(table, a, n);
     let h = halfshave_double(a, t);
     let k = choose_double(m, 0, 0, h);
     let z = below_double(m, (x - m) + k, x);

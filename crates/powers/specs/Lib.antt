@@ -1,3 +1,2 @@
 -- The table's entries, as a list.
 pub mod Table
-pub mod Fields

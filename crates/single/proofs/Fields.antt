@@ -15,8 +15,8 @@ use lib.ListN.{getD}
 use lib.Pow.{pow-pos, pow-lt}
 use Rattle.meaning.specs.Readings.{magnitude, infinity}
 use Rattle.meaning.specs.Methods.{digits, halfshaved, newMagnitude}
-use Rattle.powers.specs.Fields.{fieldLimit, fieldTail, Limits, Masks}
-use Rattle.powers.proofs.Fields.{tail-zero, tail-last, tail-short, field-tail}
+use Rattle.digit_tables.specs.Fields.{fieldLimit, fieldTail, Limits, Masks}
+use Rattle.digit_tables.proofs.Fields.{tail-zero, tail-last, tail-short, field-tail}
 use Rattle.reading.proofs.Words.{cond-lt, floor-room, halfshaved-none, halfshaved-word, digits-zero}
 use Rattle.single.specs.Left.{subnormal}
 

@@ -7,7 +7,7 @@ ghost use lib.Dec.{eqb, ltb};
 ghost use Rattle.meaning.specs.Readings.{magnitude, infinity};
 ghost use Rattle.meaning.specs.Methods.{halfshaved, round, absolute, digits};
 ghost use Rattle.powers.specs.Table.{powers};
-ghost use Rattle.powers.specs.Fields.{Limits, Masks};
+ghost use Rattle.digit_tables.specs.Fields.{Limits, Masks};
 ghost use Rattle.reading.specs.Left.{wanted, tailAdded};
 ghost use Rattle.single.specs.Left.{singleFrom, singleBy, subnormal};
 
@@ -143,7 +143,7 @@ pub fn digit_single(table: &[u64; 633], x: u32, n: u32, mark: u32) -> Single
     let m = x % 0x8000_0000;
     let b = below_single(m, m, 1);
     let a = choose_single(b, 0, 1, b);
-    let t = powers::single_tail(table, a, n);
+    let t = digit_tails::single_tail(table, a, n);
     let h = halfshave_single(a, t);
     let k = choose_single(m, 0, 0, h);
     let z = below_single(m, (x - m) + k, x);

@@ -6,7 +6,7 @@ ghost use Prim.Native.Nat.{min, _-_, _^_, _<_, _≤_};
 ghost use lib.ListN.{length};
 ghost use Rattle.meaning.specs.Methods.{round, absolute, digits};
 ghost use Rattle.powers.specs.Table.{powers};
-ghost use Rattle.powers.specs.Fields.{Limits, Masks};
+ghost use Rattle.digit_tables.specs.Fields.{Limits, Masks};
 ghost use Rattle.single.specs.Left.{singleBy};
 ghost use Rattle.asking.specs.Asked.{methodBy};
 ghost use Rattle.loops.specs.Methods.{halfUnit, evenBy, oddBy, addAt, Fitting};
@@ -236,8 +236,8 @@ fn digits_block(readings: &mut [u32], n: u32, mark: u32) -> Block
 {
     let table = powers::POWERS;
     if fields_serve(&*readings) {
-        let limits = powers::limits(&table);
-        let masks = powers::masks(n);
+        let limits = digit_tables::limits(&table);
+        let masks = digit_tables::masks(n);
         return field_singles(&limits, &masks, readings, n, mark);
     }
     digit_singles(&table, readings, n, mark)

@@ -1,0 +1,2 @@
+-- What the two tables hold.
+pub mod Fields

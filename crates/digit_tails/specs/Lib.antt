@@ -1,0 +1,2 @@
+-- The step of method 6.
+pub mod Step
