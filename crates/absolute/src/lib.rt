@@ -1,5 +1,7 @@
 // Method 5 of document 01 on one finite magnitude. The unit is 2^q least spacings: q is the setting plus 149 for singles, plus 1074 for doubles.
-// For all but the largest units the float adder rounds to the unit, with no branch (`fine_..`); for every unit whole numbers do, more slowly, and clip (`coarse_..`).
+// For all but the largest and the smallest units the float adder rounds to the unit, with no branch (`fine_..`); for every unit whole numbers do, more slowly, and clip
+// (`coarse_..`). With the units of `fine_..` the adder never has to tell a subnormal number from zero: such a reading is below half a unit, and a multiple of the unit
+// is zero or a normal number. So a caller's program may have its machine take subnormal numbers for zero.
 ghost use mathlib.Core.Path.{_≡_};
 ghost use mathlib.Core.Bool.{cond};
 ghost use Prim.Native.Nat.{ℕ, _+_, _*_, _^_, _<_, _≤_};
@@ -23,7 +25,7 @@ pub struct Coarse64 {
 // The nearest multiple of the unit, ties to even: the first single whose spacing is the unit is added, which rounds, and taken off again, which is exact; from that
 // single on a magnitude stays.
 pub fn fine_single(m: u32, q: u32) -> u32
-    requires { ⌜ (m < 0x7f800000) × (q ≤ 252) ⌝ }
+    requires { ⌜ (m < 0x7f800000) × (24 ≤ q) × (q ≤ 252) ⌝ }
     ensures { λ r. ⌜ r ≡ newMagnitude 23 8 (absolute q) 0 m ⌝ }
 {
     let start = (q + 1) << 23;
@@ -36,7 +38,7 @@ pub fn fine_single(m: u32, q: u32) -> u32
 
 // The same of a double.
 pub fn fine_double(m: u64, q: u64) -> u64
-    requires { ⌜ (m < 0x7ff0000000000000) × (q ≤ 2044) ⌝ }
+    requires { ⌜ (m < 0x7ff0000000000000) × (53 ≤ q) × (q ≤ 2044) ⌝ }
     ensures { λ r. ⌜ r ≡ newMagnitude 52 11 (absolute q) 0 m ⌝ }
 {
     let start = (q + 1) << 52;

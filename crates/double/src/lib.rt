@@ -100,7 +100,7 @@ pub fn round_double(x: u64, t: u32, mark: u64) -> Double
 
 // Method 5 with the unit 2^q, in least spacings, for the units that the float adder serves.
 pub fn fine_double(x: u64, q: u64, mark: u64) -> Double
-    requires { ⌜ q ≤ 2044 ⌝ }
+    requires { ⌜ (53 ≤ q) × (q ≤ 2044) ⌝ }
     ensures { λ r. ⌜ r ≡ doubleBy (absolute q) mark 0 x ⌝ }
 {
     let m = x % 0x8000_0000_0000_0000;

@@ -73,7 +73,7 @@ fn round_doubles(readings: &mut [u64], t: u32, mark: u64) -> loops::Totals
 
 // Method 5 over doubles, for the units that the float adder serves.
 fn fine_doubles(readings: &mut [u64], q: u64, mark: u64) -> loops::Totals
-    requires { ⌜ q ≤ 2044 ⌝ }
+    requires { ⌜ (53 ≤ q) × (q ≤ 2044) ⌝ }
     ensures sums { λ r. ⌜ r ≡ doublesSummed (λ i w. doubleBy (absolute q) mark 0 w) (now (readings .entry)) ⌝ }
     ensures content { λ _. ⌜ now (readings .exit) ≡ doublesLeft (λ i w. doubleBy (absolute q) mark 0 w) (now (readings .entry)) ⌝ }
 {
@@ -208,8 +208,10 @@ fn step_doubles(readings: &mut [u64], q: u64, mark: u64) -> loops::Totals
     ensures sums { λ r. ⌜ r ≡ doublesSummed (λ i w. doubleBy (absolute q) mark i w) (now (readings .entry)) ⌝ }
     ensures content { λ _. ⌜ now (readings .exit) ≡ doublesLeft (λ i w. doubleBy (absolute q) mark i w) (now (readings .entry)) ⌝ }
 {
-    if q <= 2044 {
-        return fine_doubles(readings, q, mark);
+    if 53 <= q {
+        if q <= 2044 {
+            return fine_doubles(readings, q, mark);
+        }
     }
     coarse_doubles(readings, q, mark)
 }

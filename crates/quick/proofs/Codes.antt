@@ -28,7 +28,7 @@ record Whole (j n : ℕ) : Type 0 where
 
 coarse-whole : (j w : ℕ) → Coarse j w → Whole j (size 23 (magnitude 23 8 w))
 coarse-whole j w (inl z) = record { times = 0; is = ap (size 23) z ∙ size-small 23 0 (omega arith) ∙ sym (zero-mul (2 ^ j)) }
-coarse-whole j w (inr l) =
+coarse-whole j w (inr (n, l)) =
     let m = magnitude 23 8 w in
     let f : Form 23 m = form 23 m in
     record {

@@ -10,9 +10,9 @@ use lib.ListN.{length, getD}
 use Rattle.meaning.specs.Readings.{magnitude, spacingExp}
 use Rattle.quick.specs.declared.Lift.{Lift}
 
--- a reading is zero, or its spacing is at least 2 ^ j
+-- a reading is zero, or it is a normal number whose spacing is at least 2 ^ j
 abbrev pub Coarse : ℕ → ℕ → Type 0
-Coarse j w = (magnitude 23 8 w ≡ 0) ⊎ (j ≤ spacingExp 23 (magnitude 23 8 w))
+Coarse j w = (magnitude 23 8 w ≡ 0) ⊎ ((8388608 ≤ magnitude 23 8 w) × (j ≤ spacingExp 23 (magnitude 23 8 w)))
 
 abbrev pub AllCoarse : ℕ → ℕ → List ℕ → Type 0
 AllCoarse mark j ws = (i : ℕ) → i < length ws → getD ws i 0 ≢ mark → Coarse j (getD ws i 0)

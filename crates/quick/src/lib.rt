@@ -32,15 +32,16 @@ fn finest_magnitude(readings: &[u32], mark: u32) -> u32
     least
 }
 
-// The first magnitude whose spacing is at least 2^(e - 37), or one not far above it.
+// The first magnitude of a normal number whose spacing is at least 2^(e - 37). A layer with a subnormal reading goes by words, so that a caller's program may have
+// its machine take subnormal numbers for zero.
 fn limit_of(e: u32) -> u32
     requires { ⌜ e ≤ 263 ⌝ }
-    ensures { λ r. ⌜ r ≡ (e - 36) * 8388608 ⌝ }
+    ensures { λ r. ⌜ r ≡ (e - 37 + 1) * 8388608 ⌝ }
 {
-    if e < 36 {
-        return 0;
+    if e < 37 {
+        return 8388608;
     }
-    (e - 36) * 8388608
+    (e - 37 + 1) * 8388608
 }
 
 // The layer's part of every code.

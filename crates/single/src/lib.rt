@@ -101,7 +101,7 @@ pub fn round_single(x: u32, t: u32, mark: u32) -> Single
 
 // Method 5 with the unit 2^q, in least spacings, for the units that the float adder serves.
 pub fn fine_single(x: u32, q: u32, mark: u32) -> Single
-    requires { ⌜ q ≤ 252 ⌝ }
+    requires { ⌜ (24 ≤ q) × (q ≤ 252) ⌝ }
     ensures { λ r. ⌜ r ≡ singleBy (absolute q) mark 0 x ⌝ }
 {
     let m = x % 0x8000_0000;

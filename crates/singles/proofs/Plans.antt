@@ -49,10 +49,10 @@ step-same : (p : Plan) → p .kind ≢ 0 → p .kind ≢ 1 → p .kind ≢ 3 →
 unfolding methodBy
 step-same p a b d mark place w = at (is-absolute p mark a b d) place w ∙ single-placeless (absolute (p .q)) (absolute-placeless 23 8 (p .q)) mark place w
 
-pub fine-plan : (q : ℕ) → q ≤ 252 → Plans 5 q (record { kind = 2; t = 0; even = 0; odd = 0; q = q })
-fine-plan q h =
+pub fine-plan : (q : ℕ) → 24 ≤ q → q ≤ 252 → Plans 5 q (record { kind = 2; t = 0; even = 0; odd = 0; q = q })
+fine-plan q l h =
     record {
-      sound = record { tail = omega arith; even-fits = pow-pos 0; odd-fits = pow-pos 0; some = λ z. absurd (omega arith); fine = λ z. h; some-digits = λ z. absurd (omega arith); few-digits = λ z. absurd (omega arith) };
+      sound = record { tail = omega arith; even-fits = pow-pos 0; odd-fits = pow-pos 0; some = λ z. absurd (omega arith); fine = λ z. (l, h); some-digits = λ z. absurd (omega arith); few-digits = λ z. absurd (omega arith) };
       same = step-same (record { kind = 2; t = 0; even = 0; odd = 0; q = q }) (λ z. omega arith) (λ z. omega arith) (λ z. omega arith);
     }
 

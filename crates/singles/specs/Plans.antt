@@ -20,7 +20,7 @@ pub record Sound (p : Plan) : Type 0 where
   pub even-fits : p .even < 2 ^ p .t
   pub odd-fits : p .odd < 2 ^ p .t
   pub some : p .kind ≡ 1 → 1 ≤ p .t
-  pub fine : p .kind ≡ 2 → p .q ≤ 252
+  pub fine : p .kind ≡ 2 → (24 ≤ p .q) × (p .q ≤ 252)
   pub some-digits : p .kind ≡ 3 → 1 ≤ p .q
   pub few-digits : p .kind ≡ 3 → p .q ≤ 7
 

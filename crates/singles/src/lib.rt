@@ -87,7 +87,7 @@ fn round_singles(readings: &mut [u32], t: u32, mark: u32) -> Block
 
 // Method 5 over a block of singles, for the units that the float adder serves.
 fn fine_singles(readings: &mut [u32], q: u32, mark: u32) -> Block
-    requires { ⌜ (q ≤ 252) × (length (now readings) ≤ 65536) ⌝ }
+    requires { ⌜ ((24 ≤ q) × (q ≤ 252)) × (length (now readings) ≤ 65536) ⌝ }
     ensures sums { λ r. ⌜ r ≡ singlesSummed (λ i w. singleBy (absolute q) mark 0 w) (now (readings .entry)) ⌝ }
     ensures content { λ _. ⌜ now (readings .exit) ≡ singlesLeft (λ i w. singleBy (absolute q) mark 0 w) (now (readings .entry)) ⌝ }
 {
@@ -404,14 +404,16 @@ fn round_plan(t: u32) -> Plan
 fn step_plan(q: u32) -> Plan
     ensures { λ r. ⌜ Plans 5 q r ⌝ }
 {
-    if q <= 252 {
-        return Plan {
-            kind: 2,
-            t: 0,
-            even: 0,
-            odd: 0,
-            q,
-        };
+    if 24 <= q {
+        if q <= 252 {
+            return Plan {
+                kind: 2,
+                t: 0,
+                even: 0,
+                odd: 0,
+                q,
+            };
+        }
     }
     Plan {
         kind: 4,

@@ -26,7 +26,7 @@ finite c =
 
 fine-double-requires : tie.Need-fine-double-requires
 unfolding infinity
-fine-double-requires c κs = (finite c, c .before .pre)
+fine-double-requires c κs = (finite c, c .before .pre .0, c .before .pre .1)
 
 sub-below-double : tie.Need-sub-below-double
 sub-below-double c = omega arith

@@ -26,7 +26,7 @@ finite c =
 
 fine-single-requires : tie.Need-fine-single-requires
 unfolding infinity
-fine-single-requires c κs = (finite c, c .before .pre)
+fine-single-requires c κs = (finite c, c .before .pre .0, c .before .pre .1)
 
 sub-below-single : tie.Need-sub-below-single
 sub-below-single c = omega arith
