@@ -9,8 +9,8 @@ use native.Mathlib.Omega.{arith}
 use borrow.Author.Tests.{le-ltb, lt-leb, ne-eqb}
 use lib.Dec.{T, eqb, eqb·suc-zero}
 use lib.Pow.{pow-pos}
-use lib.Ieee.{Float, nan, inf, fin, Format, binary32, binary64, prec, low, up, down, hid, ones, top, odd, round, sum, add, sub, neg, ofFields, ofBits, toBits, nanBits, isNan, size as length}
-use lib.Ieee.Bits.{nanBits-is, toBits-ofBits}
+use lib.Ieee.{Float, nan, inf, fin, Format, binary32, binary64, prec, low, up, down, hid, ones, top, odd, round, sum, add, sub, neg, ofFields, ofBits, toBits, nanBits, isNan, fits, size as length}
+use lib.Ieee.Bits.{nanBits-is, ofBits-toBits, toBits-ofBits}
 use lib.Ieee.Exact.{HasValue, odd-sign}
 use lib.Ieee.Fits.{down-pos}
 use lib.Ieee.Scale.{round-same}
@@ -49,6 +49,10 @@ unfolding toBits
 value-bits f nan s a h = absurd h
 value-bits f (inf t) s a h = absurd h
 value-bits f (fin t m e) s a h = rw (h .0, h .1, mul-div-cancel a (down-pos e)) (add-assoc (cond s (top f) 0) _ _)
+
+-- and so two values of a format with one sign and one size are the same
+pub same-value : (f : Format) (s : Bool) (a : ℕ) (x y : Float) → T (fits f x) → T (fits f y) → HasValue x s a (2 ^ low f) → HasValue y s a (2 ^ low f) → x ≡ y
+same-value f s a x y p q h k = sym (ofBits-toBits f x p) ∙ ap (ofBits f) (value-bits f x s a h ∙ sym (value-bits f y s a k)) ∙ ofBits-toBits f y q
 
 module _ (f : Format) (m : ℕ) (h : m < infinity (prec f - 1) (exponentBits f)) where
   under : m < ones f * hid f

@@ -13,7 +13,7 @@ use Rattle.meaning.specs.Layers.{runs, layers, layerOf, code, packedLayers, pac
 use Rattle.meaning.specs.Calls.{storedExponent}
 use Rattle.parts.proofs.Back.{back, length-back, take-back}
 use Rattle.summary.specs.Summaries.{Packable}
-use Rattle.layering.specs.declared.Layer.{Layer}
+use Rattle.layering.specs.declared.LayerRecord.{LayerRecord}
 use Rattle.layering.specs.Layering.{PackedAs}
 use Rattle.all_layers.specs.Arrays.{Fit, packedReferences, packedExponents}
 
@@ -111,7 +111,7 @@ module _ (xs : List ℕ) (mark L : ℕ) (cs₀ : List ℕ) (rs₀ : List Float) 
   pub room : i < length rs₀ → a + L ≤ length xs
   room h = run-left a i (length rs₀) L (length xs) h (inv .left) .1
 
-  pub turn : i < length rs₀ → (ys : List ℕ) (v : Layer) (z : ℤ) → z ≡ v .exponent → ys ≡ codesOf mark (take (a + L - a) (drop a xs))
+  pub turn : i < length rs₀ → (ys : List ℕ) (v : LayerRecord) (z : ℤ) → z ≡ v .exponent → ys ≡ codesOf mark (take (a + L - a) (drop a xs))
       → PackedAs v (layerOf 23 8 16 263 mark (take (a + L - a) (drop a xs)))
       → Turn xs mark L cs₀ rs₀ es₀ (back cs a (a + L - a) ys) (set rs i (v .reference)) (set es i z) (a + L) (i + 1)
   turn h ys v z ze ce ve =

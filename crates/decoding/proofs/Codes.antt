@@ -22,7 +22,7 @@ use Rattle.meaning.specs.Calls.{storedLayer}
 use Rattle.meaning.proofs.Nearest.{nearest-multiple}
 use Rattle.meaning.proofs.Sizes.{size-small}
 use Rattle.meaning.proofs.Patterns.{magnitudeOf-size, finite-below, position-plus, position-minus, size-below}
-use Rattle.decoding.specs.declared.Layer.{Layer}
+use Rattle.decoding.specs.declared.LayerFloats.{LayerFloats}
 use Rattle.decoding.specs.Floats.{finiteFloat, twoTo, unpacked, decoded, RoundedOnce}
 use Rattle.decoding.proofs.Nearest.{nearest-finite, nearest-bits, infinity-size}
 use Rattle.decoding.proofs.References.{pattern-finite, pattern-value}
@@ -96,7 +96,7 @@ origin-size : origin 23 8 ≡ 2 ^ 277
 unfolding origin
 origin-size = infinity-size binary32
 
-module _ (l : Layer) (e : ℤ) (fit : T (fits binary32 (l .reference))) (fin : finiteFloat (l .reference) ≡ true)
+module _ (l : LayerFloats) (e : ℤ) (fit : T (fits binary32 (l .reference))) (fin : finiteFloat (l .reference) ≡ true)
     (t : between (negsuc 148) e (pos 114) ≡ true) (q : l .step ≡ twoTo e) (code : ℕ) (h : code < 2 ^ 16) where
   abbrev w : ℕ
   w = toBits binary32 (l .reference)
@@ -139,7 +139,7 @@ module _ (l : Layer) (e : ℤ) (fit : T (fits binary32 (l .reference))) (fin : f
   unfolding codeMeaning storedLayer
   once =
       record {
-        product = rw q (product-exact code e h t);
+        product = rw q (product-exact code e (omega arith) t);
         nearest = lands .0;
         finite = lands .1;
         zero = λ z. lands .0 ∙ ap nearestDouble z ∙ nearest-zero;

@@ -3,5 +3,6 @@ pub mod Nearest
 pub mod References
 pub mod Steps
 pub mod Sums
+pub mod Subnormal
 pub mod Codes
 pub mod Numbers

@@ -6,7 +6,7 @@ use lib.Ieee.{Float, nan, inf, fin, binary64, up, down, unlike, round, mul, ofIn
 use lib.Ieee.Back.{round-whole}
 use lib.Ieee.Exact.{HasValue}
 use Rattle.absolute.proofs.NotNan.{Number, round-number, add-number}
-use Rattle.decoding.specs.declared.Layer.{Layer}
+use Rattle.decoding.specs.declared.LayerFloats.{LayerFloats}
 use Rattle.decoding.specs.Floats.{finiteFloat, Finite, unpacked}
 
 pub finite-number : (x : Float) → finiteFloat x ≡ true → Number x
@@ -33,7 +33,7 @@ sum-number x nan p q = absurd (true≢false (sym q))
 sum-number x (inf t) p q = absurd (true≢false (sym q))
 sum-number x (fin t n d) p q = add-number binary64 x (fin t n d) t (n * up d) (down d) p (refl, refl)
 
-pub unpacked-number : (l : Layer) (code : ℕ) → code ≤ 2 ^ 53 → Finite l → Number (unpacked l code)
+pub unpacked-number : (l : LayerFloats) (code : ℕ) → code ≤ 2 ^ 53 → Finite l → Number (unpacked l code)
 unfolding unpacked ofInt
 unpacked-number l code h k =
     let x = round binary64 false code 1 in

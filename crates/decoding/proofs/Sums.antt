@@ -17,7 +17,7 @@ use lib.Ieee.Fits.{down-pos}
 use lib.Ieee.Scale.{round-same}
 use Rattle.meaning.specs.Questions.{above, between}
 use Rattle.absolute.proofs.Values.{left-cross, right-cross, minus-cross, less-cross, add-values}
-use Rattle.decoding.specs.declared.Layer.{Layer}
+use Rattle.decoding.specs.declared.LayerFloats.{LayerFloats}
 use Rattle.decoding.specs.Floats.{twoTo, unpacked}
 use Rattle.decoding.proofs.Steps.{most, least}
 
@@ -84,16 +84,16 @@ unfolding above
 exponent-most (pos k) t = omega (arith, most k t)
 exponent-most (negsuc k) t = omega arith
 
--- c * 2 ^ (E - 149), for a c of 16 bits, is a double
-exact : (c E : ℕ) → c < 2 ^ 16 → E ≤ 263 → HasValue (round binary64 false (c * 2 ^ E) (2 ^ 149)) false (c * 2 ^ E) (2 ^ 149)
+-- c * 2 ^ (E - 149), for a c of 53 bits, is a double
+exact : (c E : ℕ) → c < 2 ^ 53 → E ≤ 263 → HasValue (round binary64 false (c * 2 ^ E) (2 ^ 149)) false (c * 2 ^ E) (2 ^ 149)
 exact c E h k =
-    round-exact binary64 false (c * 2 ^ E) (2 ^ 149) c (925 + E) (pow-pos 149) (omega arith)
-    (lt-of-lt-of-le (shl-lt 16 (925 + E) h) (pow-mono {i = 16 + (925 + E)} {j = 2098} (omega arith)))
+    round-exact binary64 false (c * 2 ^ E) (2 ^ 149) c (925 + E) (pow-pos 149) h
+    (lt-of-lt-of-le (shl-lt 53 (925 + E) h) (pow-mono {i = 53 + (925 + E)} {j = 2098} (omega arith)))
     (mul-assoc c (2 ^ E) (2 ^ 1074)
     ∙ ap (λ (z : ℕ). c * z) (sym (pow-add 2 E 1074) ∙ ap (λ (n : ℕ). 2 ^ n) {x = E + 1074} {y = 925 + E + 149} (omega arith) ∙ pow-add 2 (925 + E) 149)
     ∙ sym (mul-assoc c (2 ^ (925 + E)) (2 ^ 149)))
 
-pub product-exact : (code : ℕ) (e : ℤ) → code < 2 ^ 16 → between (negsuc 148) e (pos 114) ≡ true
+pub product-exact : (code : ℕ) (e : ℤ) → code < 2 ^ 53 → between (negsuc 148) e (pos 114) ≡ true
     → HasValue (mul binary64 (ofInt binary64 (pos code)) (twoTo e)) false (code * 2 ^ above 149 e) (2 ^ 149)
 unfolding ofInt
 product-exact code e h t =
@@ -107,13 +107,13 @@ product-exact code e h t =
 
 -- ---- the sum: of a reference that is not negative, and of one that is
 
-module _ (l : Layer) (code : ℕ) (e : ℤ) (a : ℕ) (h : code < 2 ^ 16) (t : between (negsuc 148) e (pos 114) ≡ true) (q : l .step ≡ twoTo e) where
+module _ (l : LayerFloats) (code : ℕ) (e : ℤ) (a : ℕ) (h : code < 2 ^ 16) (t : between (negsuc 148) e (pos 114) ≡ true) (q : l .step ≡ twoTo e) where
   pub unpacked-plus : HasValue (l .reference) false a (2 ^ 149) → unpacked l code ≡ round binary64 false (code * 2 ^ above 149 e + a) (2 ^ 149)
   unfolding unpacked
-  unpacked-plus v = rw q (add-values binary64 (code * 2 ^ above 149 e) a (2 ^ 149) (pow-pos 149) _ (l .reference) (product-exact code e h t) v)
+  unpacked-plus v = rw q (add-values binary64 (code * 2 ^ above 149 e) a (2 ^ 149) (pow-pos 149) _ (l .reference) (product-exact code e (omega arith) t) v)
 
   pub unpacked-minus : HasValue (l .reference) true a (2 ^ 149)
       → unpacked l code
       ≡ cond (ltb (code * 2 ^ above 149 e) a) (round binary64 true (a - code * 2 ^ above 149 e) (2 ^ 149)) (round binary64 false (code * 2 ^ above 149 e - a) (2 ^ 149))
   unfolding unpacked
-  unpacked-minus v = rw q (add-minus binary64 (code * 2 ^ above 149 e) a (2 ^ 149) (pow-pos 149) _ (l .reference) (product-exact code e h t) v)
+  unpacked-minus v = rw q (add-minus binary64 (code * 2 ^ above 149 e) a (2 ^ 149) (pow-pos 149) _ (l .reference) (product-exact code e (omega arith) t) v)

@@ -10,7 +10,7 @@ use Rattle.meaning.specs.Readings.{origin}
 use Rattle.meaning.specs.Layers.{codeMeaning, nearestDouble}
 use Rattle.meaning.specs.Questions.{above, between}
 use Rattle.meaning.specs.Calls.{storedLayer}
-use Rattle.decoding.specs.declared.Layer.{Layer}
+use Rattle.decoding.specs.declared.LayerFloats.{LayerFloats}
 
 abbrev pub finiteFloat : Float → Bool
 finiteFloat nan = false
@@ -25,20 +25,20 @@ stepExponent e = between (negsuc 148) e (pos 114)
 abbrev pub twoTo : ℤ → Float
 twoTo e = fin false 1 e
 
-pub record Finite (l : Layer) : Type 0 where
+pub record Finite (l : LayerFloats) : Type 0 where
   pub reference : finiteFloat (l .reference) ≡ true
   pub step : finiteFloat (l .step) ≡ true
 
 -- "the code as a double, times 2^E, plus R"
-unfoldable pub unpacked : Layer → ℕ → Float
+unfoldable pub unpacked : LayerFloats → ℕ → Float
 unpacked l code = add binary64 (mul binary64 (ofInt binary64 (pos code)) (l .step)) (l .reference)
 
 -- its pattern, or the mark for a missing code
-unfoldable pub decoded : Layer → ℕ → ℕ → ℕ
+unfoldable pub decoded : LayerFloats → ℕ → ℕ → ℕ
 decoded l mark code = cond (eqb code 65535) mark (toBits binary64 (unpacked l code))
 
 -- "so that only the addition rounds": of a code in a layer whose step is 2^e
-pub record RoundedOnce (l : Layer) (e : ℤ) (code : ℕ) : Type 0 where
+pub record RoundedOnce (l : LayerFloats) (e : ℤ) (code : ℕ) : Type 0 where
   -- the product is exact; sizes are counted in least spacings of singles
   pub product : HasValue (mul binary64 (ofInt binary64 (pos code)) (l .step)) false (code * 2 ^ above 149 e) (2 ^ 149)
   -- the sum is the double nearest to the exact meaning of the code, finite, and +0 where that is zero

@@ -6,7 +6,7 @@ use lib.Dec.{eqb}
 use lib.Ieee.{binary32, toBits}
 use Rattle.meaning.specs.Layers as meaning
 use Rattle.meaning.specs.Calls.{storedExponent}
-use Rattle.layering.specs.declared.Layer.{Layer}
+use Rattle.layering.specs.declared.LayerRecord.{LayerRecord}
 
 -- the code where a layer has one value or none
 unfoldable pub flatCode : ℕ → ℕ → ℕ
@@ -19,6 +19,6 @@ One (meaning.Flat a) r = r ≡ a
 One (meaning.Spread a z) r = ⊥
 
 -- a layer as the code stores it
-pub record PackedAs (l : Layer) (m : meaning.Layer) : Type 0 where
+pub record PackedAs (l : LayerRecord) (m : meaning.Layer) : Type 0 where
   pub reference : toBits binary32 (l .reference) ≡ m .reference
   pub exponent : l .exponent ≡ storedExponent m

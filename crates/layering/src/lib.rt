@@ -9,8 +9,8 @@ ghost use Rattle.meaning.specs.Layers.{Spread, summary, code, layerOf};
 ghost use Rattle.summary.specs.Summaries.{Packable};
 ghost use Rattle.layering.specs.Layering.{flatCode, One, PackedAs};
 
-// What is stored of a layer beside its codes.
-pub struct Layer {
+// A layer's record: what is stored of it beside its codes.
+pub struct LayerRecord {
     pub reference: f32,
     pub exponent: i32,
 }
@@ -43,21 +43,21 @@ fn stored(e: u32) -> i32
 }
 
 // A layer with the one value `reference`, or with none and +0.
-fn flat_layer(readings: &[u32], mark: u32, reference: f32, codes: &mut [u16]) -> Layer
+fn flat_layer(readings: &[u32], mark: u32, reference: f32, codes: &mut [u16]) -> LayerRecord
     requires { ⌜ length (now readings) ≡ length (now codes) ⌝ }
     requires { ⌜ One (summary 23 8 mark (now readings)) (toBits binary32 reference) ⌝ }
     ensures layer { λ r. ⌜ PackedAs r (layerOf 23 8 16 263 mark (now (readings .entry))) ⌝ }
     ensures content { λ _. ⌜ now (codes .exit) ≡ map (code 23 8 16 mark (layerOf 23 8 16 263 mark (now (readings .entry)))) (now (readings .entry)) ⌝ }
 {
     flat_codes(readings, mark, codes);
-    Layer {
+    LayerRecord {
         reference,
         exponent: -149,
     }
 }
 
 // A layer with the smallest value a and the largest z.
-fn spread_layer(readings: &[u32], mark: u32, a: f32, z: f32, codes: &mut [u16]) -> Layer
+fn spread_layer(readings: &[u32], mark: u32, a: f32, z: f32, codes: &mut [u16]) -> LayerRecord
     requires { ⌜ length (now readings) ≡ length (now codes) ⌝ }
     requires { ⌜ Packable mark (now readings) ⌝ }
     requires { ⌜ summary 23 8 mark (now readings) ≡ Spread (toBits binary32 a) (toBits binary32 z) ⌝ }
@@ -68,14 +68,14 @@ fn spread_layer(readings: &[u32], mark: u32, a: f32, z: f32, codes: &mut [u16]) 
     let high = f32::to_bits(z);
     let e = codes::least_step(low, high);
     quick::codes_of(readings, mark, low, e, codes);
-    Layer {
+    LayerRecord {
         reference: a,
         exponent: stored(e),
     }
 }
 
 // Packs one layer, each of whose readings is finite or missing, into its part of the codes.
-pub fn pack_layer(readings: &[u32], mark: u32, codes: &mut [u16]) -> Layer
+pub fn pack_layer(readings: &[u32], mark: u32, codes: &mut [u16]) -> LayerRecord
     requires { ⌜ length (now readings) ≡ length (now codes) ⌝ }
     requires { ⌜ Packable mark (now readings) ⌝ }
     ensures layer { λ r. ⌜ PackedAs r (layerOf 23 8 16 263 mark (now (readings .entry))) ⌝ }

@@ -48,6 +48,7 @@ fn limit_of(e: u32) -> u32
 fn lift_of(r: u32, e: u32) -> Lift
     requires { ⌜ magnitude 23 8 r < infinity 23 8 ⌝ }
     requires { ⌜ e ≤ 263 ⌝ }
+    requires { ⌜ Coarse (e - 37) r ⌝ }
     ensures { λ l. ⌜ l ≡ liftOf r e ⌝ }
 {
     let low = f32::from_bits(r) as f64;

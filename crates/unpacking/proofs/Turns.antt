@@ -17,7 +17,7 @@ use Rattle.meaning.specs.Calls.{storedLayer}
 use Rattle.meaning.proofs.Accepted.{and-first, and-second}
 use Rattle.parts.proofs.Back.{back, length-back, take-back}
 use Rattle.asking.proofs.Layers.{Lengths}
-use Rattle.decoding.specs.declared.Layer.{Layer}
+use Rattle.decoding.specs.declared.LayerFloats.{LayerFloats}
 use Rattle.decoding.specs.Floats.{finiteFloat, stepExponent, twoTo, decoded}
 use Rattle.decoding.proofs.Codes.{code-decoded}
 
@@ -105,7 +105,7 @@ module _ (cs : List ℕ) (rs : List Float) (es : List ℤ) (L mark readings : �
   exponent-step h = all-at stepExponent (pos 0) es i (inv .known .exponents) (exponent-there h)
 
   -- the layer's codes as the code has them
-  module _ (h : i < length rs) (small : Below (2 ^ 16) cs) (l : Layer) (fit : T (fits binary32 (l .reference))) (re : l .reference ≡ getD rs i nan)
+  module _ (h : i < length rs) (small : Below (2 ^ 16) cs) (l : LayerFloats) (fit : T (fits binary32 (l .reference))) (re : l .reference ≡ getD rs i nan)
       (se : l .step ≡ twoTo (getD es i (pos 0))) where
     abbrev code : ℕ → ℕ
     code = unpackedCode 16 mark (storedLayer (toBits binary32 (getD rs i nan)) (getD es i (pos 0)))

@@ -45,7 +45,7 @@ pub fn unpack(
         let reference = references[i];
         let exponent = exponents[i];
         let step = decoding::step_of(exponent);
-        let l = decoding::Layer { reference, step };
+        let l = decoding::LayerFloats { reference, step };
         let part = &codes[a..e];
         decoding::unpack_layer(part, l, mark, &mut readings[a..e]);
         a = e;

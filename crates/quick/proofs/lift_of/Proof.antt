@@ -21,11 +21,11 @@ cast-lift : tie.Need-cast-lift
 cast-lift c = search needs
 
 float-from-bits-lift : tie.Need-float-from-bits-lift
-float-from-bits-lift c = let s = c .before in rw (lift-fits (s .args .e) (s .pre .1)) (lift-number (s .args .e) (s .pre .1))
+float-from-bits-lift c = let s = c .before in rw (lift-fits (s .args .e) (s .pre .1 .0)) (lift-number (s .args .e) (s .pre .1 .0))
 
 returns : tie.Need-returns
 unfolding liftOf
-returns c = let s = c .before in ap (λ (x : ℕ). record { reference = s .args .r; low = ofBits binary32 (s .args .r); lift = ofBits binary64 x }) (lift-fits (s .args .e) (s .pre .1))
+returns c = let s = c .before in ap (λ (x : ℕ). record { reference = s .args .r; low = ofBits binary32 (s .args .r); lift = ofBits binary64 x }) (lift-fits (s .args .e) (s .pre .1 .0))
 
 pub lift-of-spec : {M : Type 1} → statement M
 lift-of-spec =

@@ -34,7 +34,7 @@ asks w mark r e l h f few c can coarse =
     )
 
 lift-of-requires : tie.Need-lift-of-requires Inv-loop μ-loop
-lift-of-requires c κs = let p = c .before .before .pre in (p .0, p .1 .0)
+lift-of-requires c κs = let p = c .before .before .pre in (p .0, (p .1 .0, p .1 .1 .0))
 
 loop-holds : tie.Need-loop-holds Inv-loop μ-loop
 loop-holds c = search needs
