@@ -10,8 +10,8 @@ use borrow.Author.Tests.{leb-true, leb-false, eqb-true, eqb-false, le-leb, lt-le
 use Rattle.meaning.specs.Readings.{leastExp}
 use Rattle.meaning.specs.Methods.{digitCount}
 use Rattle.meaning.specs.Questions.{above, between, settingInRange}
-use Rattle.asking.specs.Asked.{refusalOf, numberOf}
-use Rattle.asking.proofs.Questions.{Bounds, asked, single-range, double-range}
+use Rattle.asking.specs.Asked.{refusalOf, numberOf, askedNumber}
+use Rattle.asking.proofs.Questions.{Bounds, single-range, double-range}
 
 -- the natural setting, or 4096
 abbrev pub marked : (F X method : ℕ) → ℤ → ℕ
@@ -41,8 +41,20 @@ module _ (F X method : ℕ) (s : ℤ) where
         go true p false q = let y = simp q at e in simp (p, q, eq-eqb n 4096 y)
         go false p b q = simp p
 
-    pub number-is : refusalOf F X method s ≡ 0 → n ≡ numberOf F X method s
-    number-is r = let q = asked F X method s r .1 in simp q at e
+    -- and its number, which is 0 after a refusal
+    pub number-is : cond (leb method 6) (cond (eqb n 4096) 0 n) 0 ≡ askedNumber F X method s
+    unfolding refusalOf askedNumber
+    number-is = go (leb method 6) refl (settingInRange F X method s) refl
+      where
+        go : (a : Bool) → leb method 6 ≡ a → (b : Bool) → settingInRange F X method s ≡ b → cond (leb method 6) (cond (eqb n 4096) 0 n) 0 ≡ askedNumber F X method s
+        go true p true q = let y = simp q at e in let z = small (leb-true method 6 p) q in simp (p, q, ne-eqb n 4096 (λ m. omega arith)) y
+        go true p false q = let y = simp q at e in simp (p, q, eq-eqb n 4096 y)
+        go false p b q = simp p
+
+  -- the number of an accepted job is the natural setting
+  pub asked-number : refusalOf F X method s ≡ 0 → askedNumber F X method s ≡ numberOf F X method s
+  unfolding askedNumber
+  asked-number r = simp (eq-eqb (refusalOf F X method s) 0 r)
 
 bounded : {method n F top most : ℕ} → F < 4096 → top < 4096 → most < 4096 → Bounds method n F top most → n < 4096
 bounded {method} {n} f t m b = go (leb method 4) refl (eqb method 5) refl

@@ -27,3 +27,7 @@ module _ (F X : ℕ) where
   -- the natural setting: p counted from the exponent of the least spacing, k and n as they are
   unfoldable pub numberOf : ℕ → ℤ → ℕ
   numberOf method setting = cond (eqb method 5) (above (leastExp F X) setting) (natAbs setting)
+
+  -- what the code hands on: the natural setting of a job that is accepted, 0 for one that is refused
+  unfoldable pub askedNumber : ℕ → ℤ → ℕ
+  askedNumber method setting = cond (eqb (refusalOf method setting) 0) (numberOf method setting) 0

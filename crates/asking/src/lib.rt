@@ -1,15 +1,16 @@
 // The questions that a trim asks before it begins, in both widths: is the method known, is its setting in range? And those on lengths of packing and unpacking.
 // The answer of a trim holds the setting as a natural number, so that no code after it works with signed numbers.
+// Internal: the calls open to users are those of `trim`, `packing` and `unpacking`.
 ghost use mathlib.Core.Path.{_≡_};
 ghost use mathlib.Core.Bool.{cond};
 ghost use lib.Dec.{leb, eqb};
 ghost use lib.IntN.{pos, negsuc, natAbs};
 ghost use Rattle.meaning.specs.Questions.{above, between, settingInRange};
-ghost use Rattle.asking.specs.Asked.{refusalOf, numberOf};
+ghost use Rattle.asking.specs.Asked.{refusalOf, numberOf, askedNumber};
 ghost use Rattle.asking.specs.LayerAsked.{layerRefusal};
 
 // The refusal's number, or 0; and where it is 0, the setting as a natural number: for method 5 the setting plus 149 (1074 for doubles), else the setting itself.
-// After a refusal the number means nothing.
+// After a refusal the number is 0.
 pub struct Asked {
     pub refusal: u32,
     pub number: u32,
@@ -84,16 +85,24 @@ fn number_double(method: u32, setting: i32) -> u32
     in_range(setting, 1, 15)
 }
 
+// A refusal by its number.
+fn refused(refusal: u32) -> Asked
+    ensures refusal { λ r. ⌜ r .refusal ≡ refusal ⌝ }
+    ensures number { λ r. ⌜ r .number ≡ 0 ⌝ }
+{
+    Asked { refusal, number: 0 }
+}
+
 // The answer for a method and its natural setting, 4096 being one out of range: 1 refuses an unknown method, 2 a setting out of range.
 fn answer(method: u32, number: u32) -> Asked
     ensures refusal { λ r. ⌜ r .refusal ≡ cond (leb method 6) (cond (eqb number 4096) 2 0) 1 ⌝ }
-    ensures number { λ r. ⌜ r .number ≡ number ⌝ }
+    ensures number { λ r. ⌜ r .number ≡ cond (leb method 6) (cond (eqb number 4096) 0 number) 0 ⌝ }
 {
     if 6 < method {
-        return Asked { refusal: 1, number };
+        return refused(1);
     }
     if number == 4096 {
-        return Asked { refusal: 2, number };
+        return refused(2);
     }
     Asked { refusal: 0, number }
 }
@@ -101,7 +110,7 @@ fn answer(method: u32, number: u32) -> Asked
 // The questions before singles are trimmed.
 pub fn ask_single(method: u32, setting: i32) -> Asked
     ensures refusal { λ r. ⌜ r .refusal ≡ refusalOf 23 8 method setting ⌝ }
-    ensures number { λ r. ⌜ (r .refusal ≡ 0 → r .number ≡ numberOf 23 8 method setting) ⌝ }
+    ensures number { λ r. ⌜ r .number ≡ askedNumber 23 8 method setting ⌝ }
 {
     answer(method, number_single(method, setting))
 }
@@ -109,7 +118,7 @@ pub fn ask_single(method: u32, setting: i32) -> Asked
 // The questions before doubles are trimmed.
 pub fn ask_double(method: u32, setting: i32) -> Asked
     ensures refusal { λ r. ⌜ r .refusal ≡ refusalOf 52 11 method setting ⌝ }
-    ensures number { λ r. ⌜ (r .refusal ≡ 0 → r .number ≡ numberOf 52 11 method setting) ⌝ }
+    ensures number { λ r. ⌜ r .number ≡ askedNumber 52 11 method setting ⌝ }
 {
     answer(method, number_double(method, setting))
 }

@@ -10,7 +10,8 @@ use Rattle.meaning.specs.Calls.{answering, leaving, trim}
 use Rattle.meaning.proofs.Accepted.{Ready, accepted-ready}
 use Rattle.single.specs.Left.{singleBy}
 use Rattle.double.specs.Left.{doubleBy}
-use Rattle.asking.specs.Asked.{methodBy, refusalOf, numberOf}
+use Rattle.asking.specs.Asked.{methodBy, refusalOf, numberOf, askedNumber}
+use Rattle.asking.proofs.Answers.{asked-number}
 use Rattle.asking.proofs.Questions.{Bounds, accepted-is, refused-is, single-bounds, double-bounds}
 use Rattle.loops.specs.declared.Totals.{Totals}
 use Rattle.loops.specs.Methods.{Fitting}
@@ -36,14 +37,18 @@ module _ (F X method : ℕ) (s : ℤ) (mark : ℕ) (ws : List ℕ) where
 fitting : {method n F top most : ℕ} → Bounds method n F top most → Fitting method n F most
 fitting b = record { known = b .known; keep = b .keep; some = b .some; few = b .few }
 
+-- an accepted job's number is its natural setting
+natural : (F X method : ℕ) (s : ℤ) (r n : ℕ) → r ≡ refusalOf F X method s → r ≡ 0 → n ≡ askedNumber F X method s → numberOf F X method s ≡ n
+natural F X method s r n e z m = sym (m ∙ asked-number F X method s (sym e ∙ z))
+
 -- ---- singles
 
-pub single-fitting : (method : ℕ) (s : ℤ) (r n : ℕ) → r ≡ refusalOf 23 8 method s → r ≡ 0 → n ≡ numberOf 23 8 method s → Fitting method n 23 7
-single-fitting method s r n e z m = subst (λ (k : ℕ). Fitting method k 23 7) (sym m) (fitting (single-bounds method s (sym e ∙ z)))
+pub single-fitting : (method : ℕ) (s : ℤ) (r n : ℕ) → r ≡ refusalOf 23 8 method s → r ≡ 0 → n ≡ askedNumber 23 8 method s → Fitting method n 23 7
+single-fitting method s r n e z m = subst (λ (k : ℕ). Fitting method k 23 7) (natural 23 8 method s r n e z m) (fitting (single-bounds method s (sym e ∙ z)))
 
-module _ (method : ℕ) (s : ℤ) (mark : ℕ) (r n : ℕ) (e : r ≡ refusalOf 23 8 method s) (z : r ≡ 0) (m : n ≡ numberOf 23 8 method s) where
+module _ (method : ℕ) (s : ℤ) (mark : ℕ) (r n : ℕ) (e : r ≡ refusalOf 23 8 method s) (z : r ≡ 0) (m : n ≡ askedNumber 23 8 method s) where
   pub single-asked : trimQuestions 23 8 method s ≡ accepted (methodBy method n)
-  single-asked = accepted-is 23 8 method s (sym e ∙ z) ∙ ap (λ (k : ℕ). accepted (methodBy method k)) (sym m)
+  single-asked = accepted-is 23 8 method s (sym e ∙ z) ∙ ap (λ (k : ℕ). accepted (methodBy method k)) (natural 23 8 method s r n e z m)
 
   pub single-ready : Ready (methodBy method n)
   single-ready = accepted-ready 23 8 method s (methodBy method n) single-asked
@@ -63,12 +68,12 @@ module _ (method : ℕ) (s : ℤ) (mark : ℕ) (r n : ℕ) (e : r ≡ refusalOf 
 
 -- ---- doubles
 
-pub double-fitting : (method : ℕ) (s : ℤ) (r n : ℕ) → r ≡ refusalOf 52 11 method s → r ≡ 0 → n ≡ numberOf 52 11 method s → Fitting method n 52 15
-double-fitting method s r n e z m = subst (λ (k : ℕ). Fitting method k 52 15) (sym m) (fitting (double-bounds method s (sym e ∙ z)))
+pub double-fitting : (method : ℕ) (s : ℤ) (r n : ℕ) → r ≡ refusalOf 52 11 method s → r ≡ 0 → n ≡ askedNumber 52 11 method s → Fitting method n 52 15
+double-fitting method s r n e z m = subst (λ (k : ℕ). Fitting method k 52 15) (natural 52 11 method s r n e z m) (fitting (double-bounds method s (sym e ∙ z)))
 
-module _ (method : ℕ) (s : ℤ) (mark : ℕ) (ws : List ℕ) (r n : ℕ) (e : r ≡ refusalOf 52 11 method s) (z : r ≡ 0) (m : n ≡ numberOf 52 11 method s) where
+module _ (method : ℕ) (s : ℤ) (mark : ℕ) (ws : List ℕ) (r n : ℕ) (e : r ≡ refusalOf 52 11 method s) (z : r ≡ 0) (m : n ≡ askedNumber 52 11 method s) where
   double-asked : trimQuestions 52 11 method s ≡ accepted (methodBy method n)
-  double-asked = accepted-is 52 11 method s (sym e ∙ z) ∙ ap (λ (k : ℕ). accepted (methodBy method k)) (sym m)
+  double-asked = accepted-is 52 11 method s (sym e ∙ z) ∙ ap (λ (k : ℕ). accepted (methodBy method k)) (natural 52 11 method s r n e z m)
 
   double-ready : Ready (methodBy method n)
   double-ready = accepted-ready 52 11 method s (methodBy method n) double-asked

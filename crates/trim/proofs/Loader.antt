@@ -7,7 +7,7 @@ use Rattle.meaning.specs.Calls.{answering, loaderNumber, loader}
 use Rattle.reading.proofs.Counted.{left-is}
 use Rattle.single.specs.declared.Single.{Single}
 use Rattle.single.specs.Left.{singleFrom, singleBy}
-use Rattle.asking.specs.Asked.{methodBy, refusalOf, numberOf}
+use Rattle.asking.specs.Asked.{methodBy, refusalOf, askedNumber}
 use Rattle.asking.proofs.Questions.{refused-is}
 use Rattle.trim.proofs.Calls.{single-asked, single-ready}
 
@@ -16,7 +16,7 @@ module _ (method : ℕ) (s : ℤ) (mark place w : ℕ) (r : ℕ) (e : r ≡ refu
   unfolding loader loaderNumber answering
   refused-loader n = rw (refused-is 23 8 method s (λ z. n (e ∙ z))) (ap (λ (k : ℕ). 2 ^ 32 + k) e)
 
-  pub accepted-loader : r ≡ 0 → (n : ℕ) → n ≡ numberOf 23 8 method s → (one : Single) → one ≡ singleBy (methodBy method n) mark place w → one .pattern ≡ loader method s mark place w
+  pub accepted-loader : r ≡ 0 → (n : ℕ) → n ≡ askedNumber 23 8 method s → (one : Single) → one ≡ singleBy (methodBy method n) mark place w → one .pattern ≡ loader method s mark place w
   unfolding loader loaderNumber answering singleBy singleFrom
   accepted-loader z n m one o =
       rw (single-asked method s mark r n e z m) (ap (λ (t : Single). t .pattern) o ∙ left-is 23 8 (methodBy method n) (single-ready method s mark r n e z m) mark place w)

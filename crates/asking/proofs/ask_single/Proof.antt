@@ -1,5 +1,5 @@
 -- `ask_single` meets its contract, by the laws of `Answers`.
-use mathlib.Core.Path.{ap, sym, _∙_}
+use mathlib.Core.Path.{ap, _∙_}
 use mir.Facts.{toZ-ofZ}
 use borrow.Author.Needs.{needs}
 use Rattle.asking.proofs.Answers.{marked, refusal-is, number-is, single-small}
@@ -18,8 +18,7 @@ returns c =
     let method = s .args .method in
     let z = s .args .setting in
     let e = c .before .number-single .ensures ∙ ap (marked 23 8 method) (toZ-ofZ (s .fits .setting)) in
-    let t = c .answer .ensures .0 ∙ refusal-is 23 8 method z (single-small method z) _ e in
-    (t, λ r. c .answer .ensures .1 ∙ number-is 23 8 method z (single-small method z) _ e (sym t ∙ r))
+    (c .answer .ensures .0 ∙ refusal-is 23 8 method z (single-small method z) _ e, c .answer .ensures .1 ∙ number-is 23 8 method z (single-small method z) _ e)
 
 pub ask-single-spec : {M : Type 1} → statement M
 ask-single-spec = tie.close (tie.spec number-single-requires answer-requires returns)

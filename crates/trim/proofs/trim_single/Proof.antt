@@ -4,7 +4,7 @@ use Prim.Native.Nat.{ℕ, _+_}
 use native.Mathlib.Omega.{arith}
 use lib.IntN.{ℤ}
 use mir.Facts.{toZ-ofZ}
-use Rattle.asking.specs.Asked.{refusalOf, numberOf}
+use Rattle.asking.specs.Asked.{refusalOf, askedNumber}
 use Rattle.trim.proofs.Calls.{single-fitting}
 use Rattle.trim.proofs.Loader.{refused-loader, accepted-loader}
 use Rattle.trim.proofs.trim_single.Statement.{statement}
@@ -34,7 +34,7 @@ method-single-requires c κs =
     let none = c .if1 .left in
     single-fitting (s .args .method) (s .args .setting) (a .result .refusal) (a .result .number)
     (a .ensures .0 ∙ ap (λ (z : ℤ). refusalOf 23 8 (s .args .method) z) (toZ-ofZ (s .fits .setting))) none
-    (a .ensures .1 none ∙ ap (λ (z : ℤ). numberOf 23 8 (s .args .method) z) (toZ-ofZ (s .fits .setting)))
+    (a .ensures .1 ∙ ap (λ (z : ℤ). askedNumber 23 8 (s .args .method) z) (toZ-ofZ (s .fits .setting)))
 
 wide-requires-2 : tie.Need-wide-requires-2
 wide-requires-2 c κs = tt
@@ -47,7 +47,7 @@ returns-2 c =
     c .wide2 .ensures
     ∙ accepted-loader (s .args .method) (s .args .setting) (s .args .mark) (s .args .place) (s .args .x) (a .result .refusal)
     (a .ensures .0 ∙ ap (λ (z : ℤ). refusalOf 23 8 (s .args .method) z) (toZ-ofZ (s .fits .setting))) none (a .result .number)
-    (a .ensures .1 none ∙ ap (λ (z : ℤ). numberOf 23 8 (s .args .method) z) (toZ-ofZ (s .fits .setting))) (c .before .method-single .result) (c .before .method-single .ensures)
+    (a .ensures .1 ∙ ap (λ (z : ℤ). askedNumber 23 8 (s .args .method) z) (toZ-ofZ (s .fits .setting))) (c .before .method-single .result) (c .before .method-single .ensures)
 
 pub trim-single-spec : {M : Type 1} → statement M
 trim-single-spec =

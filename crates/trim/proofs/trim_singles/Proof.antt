@@ -4,7 +4,7 @@ use mathlib.Core.Path.{ap, _∙_}
 use Prim.Native.Nat.{_-_}
 use lib.IntN.{ℤ}
 use mir.Facts.{toZ-ofZ}
-use Rattle.asking.specs.Asked.{refusalOf, numberOf}
+use Rattle.asking.specs.Asked.{refusalOf, askedNumber}
 use Rattle.trim.specs.Answers.{answerOf}
 use Rattle.trim.proofs.Calls.{refused-call, single-fitting, single-fewer, single-accepted}
 use Rattle.trim.proofs.trim_singles.Statement.{statement}
@@ -28,7 +28,7 @@ method-singles-requires c κs =
     let none = c .before .if1 .left in
     single-fitting (s .args .method) (s .args .setting) (a .result .refusal) (a .result .number)
     (a .ensures .0 ∙ ap (λ (z : ℤ). refusalOf 23 8 (s .args .method) z) (toZ-ofZ (s .fits .setting))) none
-    (a .ensures .1 none ∙ ap (λ (z : ℤ). numberOf 23 8 (s .args .method) z) (toZ-ofZ (s .fits .setting)))
+    (a .ensures .1 ∙ ap (λ (z : ℤ). askedNumber 23 8 (s .args .method) z) (toZ-ofZ (s .fits .setting)))
 
 sub-t10 : tie.Need-sub-t10
 sub-t10 c =
@@ -38,7 +38,7 @@ sub-t10 c =
     let m = c .before .before .before .method-singles in
     single-fewer (s .args .method) (s .args .setting) (s .args .mark) (a .result .refusal) (a .result .number)
     (a .ensures .0 ∙ ap (λ (z : ℤ). refusalOf 23 8 (s .args .method) z) (toZ-ofZ (s .fits .setting))) none
-    (a .ensures .1 none ∙ ap (λ (z : ℤ). numberOf 23 8 (s .args .method) z) (toZ-ofZ (s .fits .setting)))
+    (a .ensures .1 ∙ ap (λ (z : ℤ). askedNumber 23 8 (s .args .method) z) (toZ-ofZ (s .fits .setting)))
     (s .args .readings .now) (m .result) (m .ensures .0)
 
 same-length : tie.Need-same-length
@@ -53,7 +53,7 @@ returns-2 c =
     let m = c .before .before .before .method-singles in
     single-accepted (s .args .method) (s .args .setting) (s .args .mark) (a .result .refusal) (a .result .number)
     (a .ensures .0 ∙ ap (λ (z : ℤ). refusalOf 23 8 (s .args .method) z) (toZ-ofZ (s .fits .setting))) none
-    (a .ensures .1 none ∙ ap (λ (z : ℤ). numberOf 23 8 (s .args .method) z) (toZ-ofZ (s .fits .setting)))
+    (a .ensures .1 ∙ ap (λ (z : ℤ). askedNumber 23 8 (s .args .method) z) (toZ-ofZ (s .fits .setting)))
     (s .args .readings .now) (m .result) (m .ensures .0) (m .last .0) (m .ensures .1)
 
 pub trim-singles-spec : {M : Type 1} → statement M
