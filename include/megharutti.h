@@ -33,6 +33,11 @@
  * are none, that it is aligned for its type, that so many elements stand there, and that arrays lie apart from each other. Nobody else may
  * write them during the call, or read those that the call writes. No call keeps a pointer, allocates memory, or has state of its own: calls
  * on different arrays may run at once.
+ *
+ * Float settings. Three calls compute with floats: trimming an array by `absolute`, packing and unpacking. For these the caller sees to it that
+ * the processor rounds to nearest (fesetround) and traps no float exception (feenableexcept), as a C program begins. All other calls, and
+ * trimming by the other methods, go by whole numbers. A program may be linked with gcc's -ffast-math or -Ofast: whether subnormal numbers are
+ * taken for zero changes nothing.
  */
 #ifndef MEGHARUTTI_H
 #define MEGHARUTTI_H
@@ -41,7 +46,7 @@
 #include <stdint.h>
 
 /* The version of this header, of the library and of the program trimlist. */
-#define MEGHARUTTI_VERSION "1.0.0"
+#define MEGHARUTTI_VERSION "1.0.1"
 
 #ifdef __cplusplus
 extern "C" {

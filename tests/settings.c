@@ -1,0 +1,264 @@
+/* The caller's float settings. A program that gcc links with -ffast-math begins with two settings of the processor that take subnormal numbers for zero, in what an
+ * operation gets and in what it gives. Each call below is made with these settings and with the usual ones, and has to answer and leave the same, bit for bit. Where
+ * whole numbers do all of the work, the same is asked of the other directions of rounding, with every float exception trapped. Cases of document 01 are compared with what
+ * it says.
+ *
+ * Linked without -ffast-math this program stops at once, since it would show nothing. It computes no float itself: readings and results are patterns. */
+#include "../include/megharutti.h"
+#include <inttypes.h>
+#include <stdio.h>
+#include <string.h>
+#include <xmmintrin.h>
+
+/* The processor's settings: as a program begins without -ffast-math, which is no exception trapped; the two for subnormal numbers; and directions of rounding other than
+ * to nearest. */
+enum { USUAL = 0x1F80, SUBNORMAL_RESULTS_LOST = 0x8000, SUBNORMAL_OPERANDS_LOST = 0x0040, DOWNWARDS = 0x2000, UPWARDS = 0x4000, TOWARDS_ZERO = 0x6000 };
+enum { N = 6000, CODES = 65536, ABSOLUTE = MEGHARUTTI_ABSOLUTE };
+
+static const uint32_t mark = 0x7CF00000;
+static const uint64_t wide_mark = 0x7CF0000000000000, nan_mark = 0x7FF80000000000AB;
+
+static unsigned begun; /* the settings that this program began with */
+static uint64_t calls, differing, wrong;
+
+static uint64_t draw(void) {
+    static uint64_t seed = 0x9E3779B97F4A7C15;
+    seed ^= seed << 13;
+    seed ^= seed >> 7;
+    return seed ^= seed << 17;
+}
+
+static void same(const char *what, int method, int setting, unsigned settings, int is) {
+    calls++;
+    if (!is && differing++ < 20)
+        printf("settings: %s, method %d, setting %d: differs with %04X\n", what, method, setting, settings);
+}
+
+static void check(const char *what, uint64_t got, uint64_t expected) {
+    if (got != expected && wrong++ < 20)
+        printf("settings: %s: got %" PRIX64 ", expected %" PRIX64 "\n", what, got, expected);
+}
+
+/* ---- trimming: an array, and the loader's call on some of its places */
+
+static void trim_singles(const char *what, const uint32_t *in, int method, int setting, uint32_t missing, unsigned settings) {
+    static uint32_t left[2][N];
+    uint64_t counts[2][4] = {{0}};
+    uint32_t answer[2];
+    int is = 1;
+    for (int k = 0; k < 2; k++) {
+        memcpy(left[k], in, sizeof left[k]);
+        _mm_setcsr(k ? settings : USUAL);
+        answer[k] = megharutti_trim_singles(left[k], N, method, setting, missing, counts[k]);
+    }
+    for (uint64_t i = 0; i < N; i += 97)
+        is &= megharutti_trim_single(in[i], method, setting, missing, i) == (answer[0] ? (UINT64_C(1) << 32) + answer[0] : left[0][i]);
+    _mm_setcsr(USUAL);
+    same(what, method, setting, settings, is && answer[0] == answer[1] && !memcmp(left[0], left[1], sizeof left[0]) && !memcmp(counts[0], counts[1], sizeof counts[0]));
+}
+
+static void trim_doubles(const char *what, const uint64_t *in, int method, int setting, uint64_t missing, unsigned settings) {
+    static uint64_t left[2][N];
+    uint64_t counts[2][4] = {{0}};
+    uint32_t answer[2];
+    for (int k = 0; k < 2; k++) {
+        memcpy(left[k], in, sizeof left[k]);
+        _mm_setcsr(k ? settings : USUAL);
+        answer[k] = megharutti_trim_doubles(left[k], N, method, setting, missing, counts[k]);
+    }
+    _mm_setcsr(USUAL);
+    same(what, method, setting, settings, answer[0] == answer[1] && !memcmp(left[0], left[1], sizeof left[0]) && !memcmp(counts[0], counts[1], sizeof counts[0]));
+}
+
+/* ---- layers: one layer packed, and every code of one reference and exponent unpacked */
+
+static void pack(const char *what, const uint32_t *in, size_t n) {
+    static uint16_t codes[2][N];
+    float reference[2] = {0, 0};
+    int32_t exponent[2] = {0, 0};
+    uint32_t answer[2];
+    memset(codes, 0, sizeof codes);
+    for (int k = 0; k < 2; k++) {
+        _mm_setcsr(k ? begun : USUAL);
+        answer[k] = megharutti_pack(in, n, mark, n, codes[k], n, &reference[k], 1, &exponent[k], 1);
+    }
+    _mm_setcsr(USUAL);
+    same(what, -1, (int)n, begun, !answer[0] && !answer[1] && !memcmp(&reference[0], &reference[1], 4) && exponent[0] == exponent[1] && !memcmp(codes[0], codes[1], sizeof codes[0]));
+}
+
+static void unpack(const char *what, uint32_t reference, int32_t exponent) {
+    static uint16_t codes[CODES];
+    static uint64_t readings[2][CODES];
+    float r;
+    uint32_t answer[2];
+    memcpy(&r, &reference, 4);
+    memset(readings, 0, sizeof readings);
+    for (int i = 0; i < CODES; i++)
+        codes[i] = (uint16_t)i;
+    for (int k = 0; k < 2; k++) {
+        _mm_setcsr(k ? begun : USUAL);
+        answer[k] = megharutti_unpack(codes, CODES, &r, 1, &exponent, 1, CODES, nan_mark, readings[k], CODES);
+    }
+    _mm_setcsr(USUAL);
+    same(what, -1, exponent, begun, answer[0] == answer[1] && !memcmp(readings[0], readings[1], sizeof readings[0]));
+}
+
+/* ---- the readings: subnormal numbers of every length and zeros, both of these mixed with the normal numbers next to them, all patterns, and powers of two with their
+ * halves, which are ties */
+
+static uint32_t tiny[N], mixed[N], any[N], powers[N];
+static uint64_t wide_tiny[N], wide_mixed[N], wide_any[N];
+
+static void fill(void) {
+    for (int i = 0; i < N; i++) {
+        uint32_t sign = (uint32_t)(draw() & 1) << 31;
+        uint64_t wide_sign = (draw() & 1) << 63;
+        tiny[i] = sign | (uint32_t)(draw() & ((1u << draw() % 24) - 1));
+        mixed[i] = draw() & 1 ? tiny[i] : sign | (uint32_t)(0x00800000 + draw() % (60u << 23));
+        any[i] = (uint32_t)draw();
+        powers[i] = (i % 2 ? 3u : 1u) << i % 24 | sign;
+        wide_tiny[i] = wide_sign | (draw() & ((UINT64_C(1) << draw() % 53) - 1));
+        wide_mixed[i] = draw() & 1 ? wide_tiny[i] : wide_sign | (UINT64_C(0x0010000000000000) + draw() % (UINT64_C(90) << 52));
+        wide_any[i] = draw();
+    }
+}
+
+/* ---- with subnormal numbers taken for zero: every call */
+
+static void every_trim(void) {
+    for (int p = -150; p <= 128; p++) {
+        trim_singles("subnormal singles", tiny, ABSOLUTE, p, mark, begun);
+        trim_singles("subnormal singles, and a subnormal mark", tiny, ABSOLUTE, p, 0x00400000, begun);
+        trim_singles("mixed singles", mixed, ABSOLUTE, p, mark, begun);
+        trim_singles("all singles", any, ABSOLUTE, p, mark, begun);
+        trim_singles("powers of two", powers, ABSOLUTE, p, mark, begun);
+    }
+    for (int p = -1075; p <= 1024; p++) {
+        trim_doubles("subnormal doubles", wide_tiny, ABSOLUTE, p, wide_mark, begun);
+        trim_doubles("mixed doubles", wide_mixed, ABSOLUTE, p, wide_mark, begun);
+        if (p % 8 == 0 || p < -1000)
+            trim_doubles("all doubles", wide_any, ABSOLUTE, p, wide_mark, begun);
+    }
+    for (int method = 0; method <= 7; method++)
+        for (int setting = -1; setting <= 53 && method != ABSOLUTE; setting++) {
+            trim_doubles("mixed doubles", wide_mixed, method, setting, wide_mark, begun);
+            trim_doubles("all doubles", wide_any, method, setting, wide_mark, begun);
+            if (setting <= 24) {
+                trim_singles("mixed singles", mixed, method, setting, mark, begun);
+                trim_singles("all singles", any, method, setting, mark, begun);
+            }
+        }
+}
+
+static void every_layer(void) {
+    static uint32_t in[N];
+    for (int k = 0; k < 3000; k++) {
+        size_t n = 1 + draw() % 400;
+        uint32_t fields = 1 + (uint32_t)(draw() % (k % 5 ? 254 : 3)), one_in = 1 + (uint32_t)(draw() % 60);
+        for (size_t i = 0; i < n; i++) {
+            uint32_t sign = k % 3 ? (uint32_t)(draw() & 1) << 31 : 0;
+            in[i] = sign | (uint32_t)(draw() % one_in ? draw() % ((uint64_t)fields << 23) : draw() % 0x00800000);
+            if (draw() % 17 == 0)
+                in[i] = mark;
+        }
+        pack("a layer with some subnormal singles", in, n);
+        for (size_t i = 0; i < n; i++)
+            if (in[i] != mark)
+                in[i] = (in[i] & 0x80000000) | in[i] % 0x00800000;
+        pack("a layer of subnormal singles", in, n);
+        for (size_t i = 0; i < n; i++)
+            if (in[i] != mark)
+                in[i] = i % 9 ? 1 + (uint32_t)(draw() % 0x01000000) : 1;
+        pack("a layer with a subnormal reference", in, n);
+    }
+    for (int k = 0; k < 300; k++) {
+        uint32_t sign = (uint32_t)(k & 1) << 31, field = k % 3 ? 0 : 1 + (uint32_t)(draw() % 254);
+        unpack(field ? "a normal reference" : "a subnormal reference", sign | field << 23 | (uint32_t)(draw() & ((1u << draw() % 24) - 1)), k < 10 ? -149 + k : (int32_t)(draw() % 266) - 150);
+    }
+}
+
+/* ---- with another direction of rounding, and every float exception trapped, so that a float operation that isn't exact ends this program: what goes by whole numbers.
+ * An array's absolute steps, packing and unpacking need the usual settings for these. */
+
+static void every_direction(void) {
+    const unsigned directions[3] = {DOWNWARDS, UPWARDS, TOWARDS_ZERO | SUBNORMAL_RESULTS_LOST | SUBNORMAL_OPERANDS_LOST};
+    for (int k = 0; k < 3; k++)
+        for (int method = 0; method <= 6; method++)
+            for (int setting = 0; setting <= 52 && method != ABSOLUTE; setting++) {
+                trim_doubles("all doubles, another direction", wide_any, method, setting, wide_mark, directions[k]);
+                if (setting <= 23)
+                    trim_singles("all singles, another direction", any, method, setting, mark, directions[k]);
+            }
+    for (int p = -149; p <= 127; p++)
+        for (int i = 0; i < N; i += 29) {
+            uint64_t usual = megharutti_trim_single(any[i], ABSOLUTE, p, mark, 0);
+            _mm_setcsr(directions[i % 3]);
+            uint64_t other = megharutti_trim_single(any[i], ABSOLUTE, p, mark, 0);
+            _mm_setcsr(USUAL);
+            same("the loader's call, another direction", ABSOLUTE, p, directions[i % 3], usual == other);
+        }
+}
+
+/* ---- what document 01 says, with subnormal numbers taken for zero */
+
+static void cases(void) {
+    uint64_t counts[4];
+    uint32_t singles[4] = {0x00000001, 0x80400000, 0x007FFFFF, 0x00000000};
+    uint64_t doubles[1] = {0x0008000000000000};
+    _mm_setcsr(begun);
+    check("absolute -149", megharutti_trim_singles(singles, 4, ABSOLUTE, -149, mark, counts), 0);
+    check("absolute -149 of 00000001", singles[0], 0x00000001);
+    check("absolute -149 of 80400000", singles[1], 0x80400000);
+    check("absolute -149 of 007FFFFF", singles[2], 0x007FFFFF);
+    check("absolute -149 changes nothing", counts[0], 0);
+    check("absolute -126", megharutti_trim_singles(singles, 4, ABSOLUTE, -126, mark, counts), 0);
+    check("absolute -126 of 00000001, below half a unit", singles[0], 0x00000000);
+    check("absolute -126 of 80400000, a tie", singles[1], 0x80000000);
+    check("absolute -126 of 007FFFFF, above half a unit", singles[2], 0x00800000);
+    check("absolute -1074", megharutti_trim_doubles(doubles, 1, ABSOLUTE, -1074, wide_mark, counts), 0);
+    check("absolute -1074 of 0008000000000000", doubles[0], 0x0008000000000000);
+
+    const uint32_t p12[2][2] = {{0x00000000, 0x0000FFFE}, {0x00000000, 0x0000FFFF}};
+    const int32_t exponents[2] = {-149, -148};
+    const uint16_t last[2] = {65534, 32768};
+    for (int k = 0; k < 2; k++) {
+        uint16_t codes[2] = {7, 7};
+        float reference[1] = {1};
+        int32_t exponent[1] = {7};
+        check("P12 packed", megharutti_pack(p12[k], 2, mark, 2, codes, 2, reference, 1, exponent, 1), 0);
+        check("P12's exponent", (uint64_t)(exponent[0] + 149), (uint64_t)(exponents[k] + 149));
+        check("P12's first code", codes[0], 0);
+        check("P12's last code", codes[1], last[k]);
+    }
+
+    /* 0000FFFE is 65534 times 2^-149: as a double 65534 has the field 1038, so this has 1038 - 149 = 889 = 379 in hexadecimal */
+    const uint16_t codes[3] = {0, 65534, 65535};
+    const uint32_t patterns[2] = {0x0000FFFE, 0x8000FFFE};
+    const uint64_t first[2] = {0x379FFFC000000000, 0xB79FFFC000000000}, second[2] = {0x37AFFFC000000000, 0};
+    const int32_t exponent[1] = {-149};
+    for (int k = 0; k < 2; k++) {
+        float reference[1];
+        uint64_t readings[3] = {7, 7, 7};
+        memcpy(reference, &patterns[k], 4);
+        check("unpacked", megharutti_unpack(codes, 3, reference, 1, exponent, 1, 3, nan_mark, readings, 3), 0);
+        check("a subnormal reference", readings[0], first[k]);
+        check("a subnormal reference and 65534 steps", readings[1], second[k]);
+        check("the double mark", readings[2], nan_mark);
+    }
+    _mm_setcsr(USUAL);
+}
+
+int main(void) {
+    begun = _mm_getcsr();
+    if (!(begun & SUBNORMAL_RESULTS_LOST) || !(begun & SUBNORMAL_OPERANDS_LOST)) {
+        puts("settings: this program shows nothing: link it with -ffast-math");
+        return 2;
+    }
+    fill();
+    cases();
+    every_trim();
+    every_layer();
+    every_direction();
+    printf("settings: %" PRIu64 " calls, %" PRIu64 " differ; %" PRIu64 " cases wrong\n", calls, differing, wrong);
+    return differing || wrong;
+}
