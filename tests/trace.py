@@ -1,5 +1,6 @@
 #!/usr/bin/env python3
-"""Checks docs/TRACE.md and docs/PAPERS.md: what they refer to must exist.
+"""Checks docs/TRACE.md and docs/PAPERS.md: what they refer to must exist. And docs/PROMISES.md's list of calls open to users: a crate with functions
+stands there, or says in its first lines that it is internal.
 
 A row of the trace is `| clause | definition | contract or theorem | must-fail edit | test |`. Each cell after the first holds references in
 backticks, parted by a space or <br>, and nothing else; under must-fail edit these are .edit files. Where nothing stands, the cell holds one
@@ -15,6 +16,7 @@ from pathlib import Path
 ROOT = Path(__file__).resolve().parent.parent
 TABLE = ROOT / "docs" / "TRACE.md"
 PAPERS = ROOT / "docs" / "PAPERS.md"
+PROMISES = ROOT / "docs" / "PROMISES.md"
 PROVED = "Papers.antt#papers"
 GAP = "docs/DECISIONS.md#gap: "
 COLUMNS = ["definition", "contract or theorem", "must-fail edit", "test"]
@@ -75,6 +77,19 @@ def papers():
         yield name if name.startswith("crates/") else f"crates/papers/{folder}/{name}"
 
 
+def opened():
+    """Faults of the list of calls open to users: a library with functions has calls on it, or its first comment says 'Internal:', and not both."""
+    section = PROMISES.read_text(encoding="utf8").split("## The calls open to users")[1].split("\n## ")[0]
+    listed = set(re.findall(r"crates/(\w+)/src/lib\.rt", section))
+    if not listed:
+        yield "docs/PROMISES.md: no call is open to users"
+    for path in sorted(ROOT.glob("crates/*/src/lib.rt")):
+        name, text = path.parts[-3], path.read_text(encoding="utf8")
+        first = re.match(r"(?://.*\n)*", text)[0]
+        if (re.search(r"\b(?:fn|mod|const) \w", text) or name in listed) and (name in listed) == ("Internal:" in first):
+            yield f"crates/{name}/src/lib.rt: its first lines and docs/PROMISES.md's list of calls don't say the same"
+
+
 def main():
     sys.stdout.reconfigure(encoding="utf8")
     faults = []
@@ -109,6 +124,7 @@ def main():
     faults += [f"docs/DECISIONS.md: gap: {key}: no cell names it" for key, cells in gaps.items() if cells == 0]
     claims = list(papers())
     faults += [f"docs/PAPERS.md: {text}: {why}" for text in claims if (why := fault(text))]
+    faults += opened()
     for line in faults:
         print(line)
     print(f"trace: {count} rows, {references} references")

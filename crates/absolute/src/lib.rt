@@ -2,6 +2,7 @@
 // For all but the largest and the smallest units the float adder rounds to the unit, with no branch (`fine_..`); for every unit whole numbers do, more slowly, and clip
 // (`coarse_..`). With the units of `fine_..` the adder never has to tell a subnormal number from zero: such a reading is below half a unit, and a multiple of the unit
 // is zero or a normal number. So a caller's program may have its machine take subnormal numbers for zero.
+// Internal: the calls open to users are those of `trim`.
 ghost use mathlib.Core.Path.{_≡_};
 ghost use mathlib.Core.Bool.{cond};
 ghost use Prim.Native.Nat.{ℕ, _+_, _*_, _^_, _<_, _≤_};

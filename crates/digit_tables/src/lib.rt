@@ -1,5 +1,5 @@
 // Method 6 of document 01, digits, for arrays of singles: two tables, made once from the powers of ten. A single's exponent field leaves two decades: one table holds
-// for each field the limit where the second begins, the other the bits that the method changes in each of the two.
+// for each field the limit where the second begins, the other the bits that the method changes in each of the two. Internal: the calls open to users are those of `trim`.
 ghost use mathlib.Core.Path.{_≡_};
 ghost use Prim.Native.Nat.{_-_, _/_, _%_, _^_, _<_, _≤_};
 ghost use Rattle.powers.specs.Table.{powers};

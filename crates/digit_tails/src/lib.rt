@@ -1,5 +1,5 @@
 // Method 6 of document 01, digits: how many last bits of a reading the method changes. A table of the powers of ten gives the decade of the reading's size;
-// the step, a power of two, follows from the decade, and the tail is what the step has above the reading's spacing.
+// the step, a power of two, follows from the decade, and the tail is what the step has above the reading's spacing. Internal: the calls open to users are those of `trim`.
 ghost use mathlib.Core.Path.{_≡_};
 ghost use Prim.Native.Nat.{_+_, _-_, _*_, _^_, _<_, _≤_};
 ghost use Rattle.meaning.specs.Readings.{size, leastExp};

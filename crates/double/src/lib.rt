@@ -1,5 +1,5 @@
 // One double: the pattern that is left of it and what it counts for, by each method. Everything is computed first and chosen last, so that a loop over these functions
-// has no branch on the data. Internal: the calls open to users are those of the crates above.
+// has no branch on the data. Internal: the calls open to users are those of `trim`.
 ghost use mathlib.Core.Path.{_≡_};
 ghost use mathlib.Core.Bool.{cond};
 ghost use Prim.Native.Nat.{_-_, _/_, _*_, _^_, _<_, _≤_};

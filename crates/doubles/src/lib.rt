@@ -1,4 +1,4 @@
-// Trimming an array of doubles in place: each method's loop.
+// Trimming an array of doubles in place: each method's loop. Internal: the calls open to users are those of `trim`.
 ghost use mathlib.Core.Path.{_≡_};
 ghost use Prim.Native.Nat.{_-_, _^_, _<_, _≤_};
 ghost use Rattle.meaning.specs.Methods.{round, absolute, digits};

@@ -1,5 +1,5 @@
 // Lists of trims over one array with one mark, and the packing that may follow, as demand 3 speaks of them. Call i is methods[i] with settings[i], and the list is the
-// pairs that both slices have. Evidence that the demand holds of calls; not part of the interface.
+// pairs that both slices have. Internal: they show that the demand holds of calls as they run.
 ghost use mathlib.Core.Path.{_≡_};
 ghost use mathlib.Core.List.{map};
 ghost use Prim.Native.Nat.{min};

@@ -1,4 +1,4 @@
-// What the loops over singles and those over doubles share: the sums over an array, and a wider number.
+// What the loops over singles and those over doubles share: the sums over an array, and a wider number. Internal: the calls open to users are those of `trim`.
 ghost use mathlib.Core.Path.{_≡_};
 
 // The sums over a whole array: places changed, places where the reading or its result is the mark, places clipped, places missing.

@@ -1,4 +1,5 @@
 // The powers of ten as doubles: a table of the smallest double that is not below each. By it method 6 of document 01, digits, finds a reading's decade.
+// Internal: the calls open to users are those of `trim`.
 ghost use Prim.Native.Nat.{_+_, _-_, _*_, _^_, _<_, _≤_};
 ghost use Rattle.meaning.specs.Readings.{size, leastExp};
 

@@ -1,5 +1,5 @@
 // Trimming an array of singles in place: each method's loop, and the loader's one reading. The loops run in blocks, so that 32-bit counters serve and LLVM can work
-// on four readings at once.
+// on four readings at once. Internal: the calls open to users are those of `trim`.
 ghost use mathlib.Core.Path.{_≡_};
 ghost use mathlib.Core.Bool.{true};
 ghost use Prim.Native.Nat.{min, _-_, _^_, _<_, _≤_};

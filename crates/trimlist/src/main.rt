@@ -100,7 +100,7 @@ fn run() {
 // The program takes no argument: whatever it is given, it says what it is.
 fn about() {
     write_answer(
-        b"trimlist 1.0.0\ntrims the text that it reads from standard input: trimlist <text\n",
+        b"trimlist 1.0.1\ntrims the text that it reads from standard input: trimlist <text\n",
     );
 }
 
