@@ -1,4 +1,4 @@
--- The kit's rounding against document 01's; singles as references; 2^E; the float formula; one code; what is no NaN.
+-- The kit's rounding against document 01's; singles as references; 2^E; the float formula; a subnormal reference as a double; one code; what is no NaN.
 pub mod Nearest
 pub mod References
 pub mod Steps
