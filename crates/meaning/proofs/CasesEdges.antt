@@ -54,6 +54,8 @@ pub record Edges : Type 0 where
   absolute-clips : (after (absolute 127 ∷ []) 0x7F400000 ≡ 0x7F000000) × (answer 23 8 0x7CF00000 (absolute 127) (0x7F400000 ∷ []) ≡ counting 1 0 1 0)
   -- ---- but round 0 of 7F400000 goes to the even 7F000000 below it, and doesn't clip
   tie-stays : (after (round 0 ∷ []) 0x7F400000 ≡ 0x7F000000) × (answer 23 8 0x7CF00000 (round 0) (0x7F400000 ∷ []) ≡ counting 1 0 0 0)
+  -- ---- and the largest finite value, which is a multiple of the least spacing, stays and doesn't clip
+  largest-stays : answer 23 8 0x7CF00000 (call 5 (negℤ (pos 149))) (0x7F7FFFFF ∷ []) ≡ counting 0 0 0 0
   -- ---- clip comes before spare: the old pattern, counted as spared alone
   clip-spare : (singles 0x7F7F0000 (round 7 ∷ []) (0x7F7FFFFF ∷ []) ≡ 0x7F7FFFFF ∷ []) × (answer 23 8 0x7F7F0000 (round 7) (0x7F7FFFFF ∷ []) ≡ counting 0 1 0 0)
   -- ---- spare and missing go by bits: with the mark 00000000, 0.25 is spared, -0.25 becomes -0, and -0 is present
@@ -69,6 +71,9 @@ pub record Edges : Type 0 where
   unit-subnormal : unit 23 (Methods.tail Methods.set 7) 0x00000001 ≡ 2 ^ 16
   -- ---- a NaN that isn't the mark, and an infinity, are untouched and counted nowhere, and they and missing readings count as places
   untouched : (after (shave 0 ∷ []) 0x7FC12345 ≡ 0x7FC12345) × (answer 23 8 0x7CF00000 (shave 0) (0x7FC12345 ∷ 0xFF800000 ∷ []) ≡ counting 0 0 0 0)
+  -- ---- a NaN that is the mark counts as missing; one whose bits a method would turn into the mark is untouched and not spared
+  nan-missing : answer 23 8 0x7FC00000 (round 7) (0x7FC00000 ∷ []) ≡ counting 0 0 0 1
+  nan-unspared : answer 23 8 0x7F800000 (shave 0) (0x7FC12345 ∷ []) ≡ counting 0 0 0 0
   places : singles 0x7CF00000 (groom 7 ∷ []) (0x7F800000 ∷ 0x40490FDB ∷ 0x40490FDB ∷ 0x7CF00000 ∷ 0x40490FDB ∷ 0x40490FDB ∷ []) ≡ 0x7F800000 ∷ 0x4049FFFF ∷ 0x40490000 ∷ 0x7CF00000 ∷ 0x40490000 ∷ 0x4049FFFF ∷ []
   -- ---- a reading with the mark's magnitude and the other sign is present: -1.5 beside the mark 1.5
   mark-sign : singles 0x3FC00000 (absolute 0 ∷ []) (0xBFC00000 ∷ 0x3FC00000 ∷ []) ≡ 0xC0000000 ∷ 0x3FC00000 ∷ []
@@ -109,8 +114,8 @@ pub record Edges : Type 0 where
   -- ---- halfshaving groomed data differs where grooming gave zero, and where the mark is a halfshaved pattern
   groomed-zero : (after (groom 7 ∷ halfshave 7 ∷ []) 0x00000001 ≡ 0x00000000) × (after (halfshave 7 ∷ []) 0x00000001 ≡ 0x00008000)
   groomed-mark : (singles 0x40498000 (groom 7 ∷ halfshave 7 ∷ []) (0x40490FDB ∷ []) ≡ 0x40490000 ∷ []) × (singles 0x40498000 (halfshave 7 ∷ []) (0x40490FDB ∷ []) ≡ 0x40490FDB ∷ [])
-  -- ---- digits stays where its step is below two spacings
-  digits-stays : after (digits 7 ∷ []) 0x411FFFFF ≡ 0x411FFFFF
+  -- ---- digits stays where its step is below two spacings, and changes 4 where it is just that
+  digits-stays : (after (digits 7 ∷ []) 0x411FFFFF ≡ 0x411FFFFF) × (after (digits 7 ∷ []) 0x40800000 ≡ 0x40800001)
 
 pub edges : Edges
 unfolding afterDouble singles after answer packs unpacks unit loads packed summed unpacked
@@ -129,6 +134,7 @@ edges =
       tie-clips = (refl, refl);
       absolute-clips = (refl, refl);
       tie-stays = (refl, refl);
+      largest-stays = refl;
       clip-spare = (refl, refl);
       by-bits = (refl, refl);
       rain = (refl, refl);
@@ -137,6 +143,8 @@ edges =
       unit-absolute = refl;
       unit-subnormal = refl;
       untouched = (refl, refl);
+      nan-missing = refl;
+      nan-unspared = refl;
       places = refl;
       mark-sign = refl;
       zeros-set = refl;
@@ -166,5 +174,5 @@ edges =
       unpack-refused = refl;
       groomed-zero = (refl, refl);
       groomed-mark = (refl, refl);
-      digits-stays = refl;
+      digits-stays = (refl, refl);
     }

@@ -41,10 +41,10 @@ pub record Refusals : Type 0 where
   pack-long : (packing 65536 [] 0 0 0 ≡ 0) × (packing 65537 [] 0 0 0 ≡ 3)
   -- Pack: is the number of readings a whole multiple of L? No: 4.
   pack-multiple : (packing 2 (0 ∷ []) 1 0 0 ≡ 4) × (packing 2 (0 ∷ 0 ∷ []) 2 1 1 ≡ 0)
-  -- Pack: has each other array the length that follows? No: 5.
-  pack-codes : packing 1 (0 ∷ []) 0 1 1 ≡ 5
-  pack-references : packing 1 (0 ∷ []) 1 2 1 ≡ 5
-  pack-exponents : packing 1 (0 ∷ []) 1 1 0 ≡ 5
+  -- Pack: has each other array the length that follows? No: 5. One too few, and one too many
+  pack-codes : (packing 1 (0 ∷ []) 0 1 1 ≡ 5) × (packing 1 (0 ∷ []) 2 1 1 ≡ 5)
+  pack-references : (packing 1 (0 ∷ []) 1 0 1 ≡ 5) × (packing 1 (0 ∷ []) 1 2 1 ≡ 5)
+  pack-exponents : (packing 1 (0 ∷ []) 1 1 0 ≡ 5) × (packing 1 (0 ∷ []) 1 1 2 ≡ 5)
   pack-none : packing 1 [] 1 0 0 ≡ 5
   -- Pack: is each reading finite or the mark? No: 6.
   pack-infinite : packing 1 (infinite ∷ []) 1 1 1 ≡ 6
@@ -58,9 +58,9 @@ pub record Refusals : Type 0 where
   unpack-short : (unpacking nan 0 [] [] [] 0 ≡ 3) × (unpacking nan 1 [] [] [] 0 ≡ 0)
   unpack-long : (unpacking nan 65536 [] [] [] 0 ≡ 0) × (unpacking nan 65537 [] [] [] 0 ≡ 3)
   unpack-multiple : unpacking nan 2 (0 ∷ []) [] [] 1 ≡ 4
-  unpack-readings : unpacking nan 1 (0 ∷ []) (0 ∷ []) (pos 0 ∷ []) 0 ≡ 5
-  unpack-references : unpacking nan 1 (0 ∷ []) [] (pos 0 ∷ []) 1 ≡ 5
-  unpack-exponents : unpacking nan 1 (0 ∷ []) (0 ∷ []) [] 1 ≡ 5
+  unpack-readings : (unpacking nan 1 (0 ∷ []) (0 ∷ []) (pos 0 ∷ []) 0 ≡ 5) × (unpacking nan 1 (0 ∷ []) (0 ∷ []) (pos 0 ∷ []) 2 ≡ 5)
+  unpack-references : (unpacking nan 1 (0 ∷ []) [] (pos 0 ∷ []) 1 ≡ 5) × (unpacking nan 1 (0 ∷ []) (0 ∷ 0 ∷ []) (pos 0 ∷ []) 1 ≡ 5)
+  unpack-exponents : (unpacking nan 1 (0 ∷ []) (0 ∷ []) [] 1 ≡ 5) × (unpacking nan 1 (0 ∷ []) (0 ∷ []) (pos 0 ∷ pos 0 ∷ []) 1 ≡ 5)
   -- Unpack: is each R finite and each E in -149 to 114? No: 7.
   unpack-infinite : unpacking nan 1 (0 ∷ []) (infinite ∷ []) (pos 0 ∷ []) 1 ≡ 7
   unpack-low : (unpacking nan 1 (0 ∷ []) (0 ∷ []) (minus 150 ∷ []) 1 ≡ 7) × (unpacking nan 1 (0 ∷ []) (0 ∷ []) (minus 149 ∷ []) 1 ≡ 0)
@@ -93,9 +93,9 @@ refusals =
       pack-short = (refl, refl);
       pack-long = (refl, refl);
       pack-multiple = (refl, refl);
-      pack-codes = refl;
-      pack-references = refl;
-      pack-exponents = refl;
+      pack-codes = (refl, refl);
+      pack-references = (refl, refl);
+      pack-exponents = (refl, refl);
       pack-none = refl;
       pack-infinite = refl;
       pack-nan = refl;
@@ -106,9 +106,9 @@ refusals =
       unpack-short = (refl, refl);
       unpack-long = (refl, refl);
       unpack-multiple = refl;
-      unpack-readings = refl;
-      unpack-references = refl;
-      unpack-exponents = refl;
+      unpack-readings = (refl, refl);
+      unpack-references = (refl, refl);
+      unpack-exponents = (refl, refl);
       unpack-infinite = refl;
       unpack-low = (refl, refl);
       unpack-high = (refl, refl);
