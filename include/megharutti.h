@@ -34,10 +34,11 @@
  * write them during the call, or read those that the call writes. No call keeps a pointer, allocates memory, or has state of its own: calls
  * on different arrays may run at once.
  *
- * Float settings. Three calls compute with floats: trimming an array by `absolute`, packing and unpacking. For these the caller sees to it that
- * the processor rounds to nearest (fesetround) and traps no float exception (feenableexcept), as a C program begins. All other calls, and
- * trimming by the other methods, go by whole numbers. A program may be linked with gcc's -ffast-math or -Ofast: whether subnormal numbers are
- * taken for zero changes nothing.
+ * Float settings. Floats are computed with by megharutti_trim_singles and megharutti_trim_doubles where the method is absolute, by
+ * megharutti_pack and by megharutti_unpack. For these the caller sees to it that the processor rounds to nearest (fesetround) and traps no
+ * float exception (feenableexcept), as a C program begins; they may raise exception flags. All else goes by whole numbers. A program may be
+ * linked with gcc's -ffast-math or -Ofast: whether subnormal numbers are taken for zero changes nothing. But compiled so, C's isnan finds no
+ * NaN: tell a missing double by its pattern, which is the mark's.
  */
 #ifndef MEGHARUTTI_H
 #define MEGHARUTTI_H

@@ -13,7 +13,8 @@
 /* The processor's settings: as a program begins without -ffast-math, which is no exception trapped; the two for subnormal numbers; and directions of rounding other than
  * to nearest. */
 enum { USUAL = 0x1F80, SUBNORMAL_RESULTS_LOST = 0x8000, SUBNORMAL_OPERANDS_LOST = 0x0040, DOWNWARDS = 0x2000, UPWARDS = 0x4000, TOWARDS_ZERO = 0x6000 };
-enum { N = 6000, CODES = 65536, ABSOLUTE = MEGHARUTTI_ABSOLUTE };
+/* So many readings that a loop over several at once leaves a rest; and the readings of the longest layer. */
+enum { N = 6007, LONG = 65536, ABSOLUTE = MEGHARUTTI_ABSOLUTE };
 
 static const uint32_t mark = 0x7CF00000;
 static const uint64_t wide_mark = 0x7CF0000000000000, nan_mark = 0x7FF80000000000AB;
@@ -28,10 +29,10 @@ static uint64_t draw(void) {
     return seed ^= seed << 17;
 }
 
-static void same(const char *what, int method, int setting, unsigned settings, int is) {
+static void same(const char *what, const char *first, int a, const char *second, int b, unsigned settings, int is) {
     calls++;
     if (!is && differing++ < 20)
-        printf("settings: %s, method %d, setting %d: differs with %04X\n", what, method, setting, settings);
+        printf("settings: %s, %s %d, %s %d: differs with %04X\n", what, first, a, second, b, settings);
 }
 
 static void check(const char *what, uint64_t got, uint64_t expected) {
@@ -54,7 +55,7 @@ static void trim_singles(const char *what, const uint32_t *in, int method, int s
     for (uint64_t i = 0; i < N; i += 97)
         is &= megharutti_trim_single(in[i], method, setting, missing, i) == (answer[0] ? (UINT64_C(1) << 32) + answer[0] : left[0][i]);
     _mm_setcsr(USUAL);
-    same(what, method, setting, settings, is && answer[0] == answer[1] && !memcmp(left[0], left[1], sizeof left[0]) && !memcmp(counts[0], counts[1], sizeof counts[0]));
+    same(what, "method", method, "setting", setting, settings, is && answer[0] == answer[1] && !memcmp(left[0], left[1], sizeof left[0]) && !memcmp(counts[0], counts[1], sizeof counts[0]));
 }
 
 static void trim_doubles(const char *what, const uint64_t *in, int method, int setting, uint64_t missing, unsigned settings) {
@@ -67,44 +68,43 @@ static void trim_doubles(const char *what, const uint64_t *in, int method, int s
         answer[k] = megharutti_trim_doubles(left[k], N, method, setting, missing, counts[k]);
     }
     _mm_setcsr(USUAL);
-    same(what, method, setting, settings, answer[0] == answer[1] && !memcmp(left[0], left[1], sizeof left[0]) && !memcmp(counts[0], counts[1], sizeof counts[0]));
+    same(what, "method", method, "setting", setting, settings, answer[0] == answer[1] && !memcmp(left[0], left[1], sizeof left[0]) && !memcmp(counts[0], counts[1], sizeof counts[0]));
 }
 
-/* ---- layers: one layer packed, and every code of one reference and exponent unpacked */
+/* ---- layers: readings packed in layers of `length`, and codes unpacked with the references and exponents of some layers */
 
-static void pack(const char *what, const uint32_t *in, size_t n) {
-    static uint16_t codes[2][N];
-    float reference[2] = {0, 0};
-    int32_t exponent[2] = {0, 0};
+static void pack(const char *what, const uint32_t *in, size_t n, size_t length) {
+    static uint16_t codes[2][LONG];
+    static float references[2][LONG];
+    static int32_t exponents[2][LONG];
     uint32_t answer[2];
     memset(codes, 0, sizeof codes);
+    memset(references, 0, sizeof references);
+    memset(exponents, 0, sizeof exponents);
     for (int k = 0; k < 2; k++) {
         _mm_setcsr(k ? begun : USUAL);
-        answer[k] = megharutti_pack(in, n, mark, n, codes[k], n, &reference[k], 1, &exponent[k], 1);
+        answer[k] = megharutti_pack(in, n, mark, length, codes[k], n, references[k], n / length, exponents[k], n / length);
     }
     _mm_setcsr(USUAL);
-    same(what, -1, (int)n, begun, !answer[0] && !answer[1] && !memcmp(&reference[0], &reference[1], 4) && exponent[0] == exponent[1] && !memcmp(codes[0], codes[1], sizeof codes[0]));
+    same(what, "readings", (int)n, "length", (int)length, begun, !answer[0] && !answer[1] && !memcmp(references[0], references[1], sizeof references[0]) && !memcmp(exponents[0], exponents[1], sizeof exponents[0]) && !memcmp(codes[0], codes[1], sizeof codes[0]));
 }
 
-static void unpack(const char *what, uint32_t reference, int32_t exponent) {
-    static uint16_t codes[CODES];
-    static uint64_t readings[2][CODES];
-    float r;
+static void unpack(const char *what, const uint16_t *codes, size_t n, size_t length, const uint32_t *patterns, const int32_t *exponents) {
+    static uint64_t readings[2][LONG];
+    static float references[LONG];
     uint32_t answer[2];
-    memcpy(&r, &reference, 4);
+    memcpy(references, patterns, n / length * 4);
     memset(readings, 0, sizeof readings);
-    for (int i = 0; i < CODES; i++)
-        codes[i] = (uint16_t)i;
     for (int k = 0; k < 2; k++) {
         _mm_setcsr(k ? begun : USUAL);
-        answer[k] = megharutti_unpack(codes, CODES, &r, 1, &exponent, 1, CODES, nan_mark, readings[k], CODES);
+        answer[k] = megharutti_unpack(codes, n, references, n / length, exponents, n / length, length, nan_mark, readings[k], n);
     }
     _mm_setcsr(USUAL);
-    same(what, -1, exponent, begun, answer[0] == answer[1] && !memcmp(readings[0], readings[1], sizeof readings[0]));
+    same(what, "codes", (int)n, "length", (int)length, begun, answer[0] == answer[1] && !memcmp(readings[0], readings[1], sizeof readings[0]));
 }
 
-/* ---- the readings: subnormal numbers of every length and zeros, both of these mixed with the normal numbers next to them, all patterns, and powers of two with their
- * halves, which are ties */
+/* ---- the readings: subnormal numbers of every length and zeros, both of these mixed with the normal numbers next to them, all patterns, and every 2^k and 3 * 2^k least
+ * spacings, which are ties */
 
 static uint32_t tiny[N], mixed[N], any[N], powers[N];
 static uint64_t wide_tiny[N], wide_mixed[N], wide_any[N];
@@ -116,7 +116,7 @@ static void fill(void) {
         tiny[i] = sign | (uint32_t)(draw() & ((1u << draw() % 24) - 1));
         mixed[i] = draw() & 1 ? tiny[i] : sign | (uint32_t)(0x00800000 + draw() % (60u << 23));
         any[i] = (uint32_t)draw();
-        powers[i] = (i % 2 ? 3u : 1u) << i % 24 | sign;
+        powers[i] = (i / 24 % 2 ? 3u : 1u) << i % 24 | sign;
         wide_tiny[i] = wide_sign | (draw() & ((UINT64_C(1) << draw() % 53) - 1));
         wide_mixed[i] = draw() & 1 ? wide_tiny[i] : wide_sign | (UINT64_C(0x0010000000000000) + draw() % (UINT64_C(90) << 52));
         wide_any[i] = draw();
@@ -150,30 +150,60 @@ static void every_trim(void) {
         }
 }
 
-static void every_layer(void) {
-    static uint32_t in[N];
+/* A present reading of a layer: zeros of both signs, the ends of the subnormal numbers and the normal number after them, subnormal numbers, and others of so many binades. */
+static uint32_t reading(uint32_t binades, int negative, uint32_t one_in) {
+    const uint32_t ends[6] = {0x00000000, 0x00000001, 0x007FFFFE, 0x007FFFFF, 0x00800000, 0x00800001};
+    uint32_t sign = negative ? (uint32_t)(draw() & 1) << 31 : 0;
+    if (draw() % 23 == 0)
+        return sign | ends[draw() % 6];
+    return sign | (uint32_t)(draw() % one_in ? draw() % ((uint64_t)binades << 23) : draw() % 0x00800000);
+}
+
+static void every_packing(void) {
+    static uint32_t in[LONG];
     for (int k = 0; k < 3000; k++) {
-        size_t n = 1 + draw() % 400;
-        uint32_t fields = 1 + (uint32_t)(draw() % (k % 5 ? 254 : 3)), one_in = 1 + (uint32_t)(draw() % 60);
-        for (size_t i = 0; i < n; i++) {
-            uint32_t sign = k % 3 ? (uint32_t)(draw() & 1) << 31 : 0;
-            in[i] = sign | (uint32_t)(draw() % one_in ? draw() % ((uint64_t)fields << 23) : draw() % 0x00800000);
-            if (draw() % 17 == 0)
-                in[i] = mark;
-        }
-        pack("a layer with some subnormal singles", in, n);
+        size_t length = 1 + draw() % 400, n = length * (1 + draw() % 3);
+        uint32_t binades = 1 + (uint32_t)(draw() % (k % 5 ? 254 : 3)), one_in = 1 + (uint32_t)(draw() % 60);
+        for (size_t i = 0; i < n; i++)
+            in[i] = draw() % 17 ? reading(binades, k % 3, one_in) : mark;
+        pack("layers with some subnormal singles", in, n, length);
         for (size_t i = 0; i < n; i++)
             if (in[i] != mark)
                 in[i] = (in[i] & 0x80000000) | in[i] % 0x00800000;
-        pack("a layer of subnormal singles", in, n);
+        pack("layers of subnormal singles", in, n, length);
         for (size_t i = 0; i < n; i++)
             if (in[i] != mark)
                 in[i] = i % 9 ? 1 + (uint32_t)(draw() % 0x01000000) : 1;
-        pack("a layer with a subnormal reference", in, n);
+        pack("layers with a subnormal reference", in, n, length);
     }
-    for (int k = 0; k < 300; k++) {
-        uint32_t sign = (uint32_t)(k & 1) << 31, field = k % 3 ? 0 : 1 + (uint32_t)(draw() % 254);
-        unpack(field ? "a normal reference" : "a subnormal reference", sign | field << 23 | (uint32_t)(draw() & ((1u << draw() % 24) - 1)), k < 10 ? -149 + k : (int32_t)(draw() % 266) - 150);
+    /* one subnormal single among normal ones, the largest and the smallest of them, in a short layer and in the longest */
+    const uint32_t one[6] = {0x007FFFFF, 0x807FFFFF, 0x00000001, 0x80000001, 0x00400000, 0x80000000};
+    for (int k = 0; k < 60; k++) {
+        size_t n = k % 2 ? 65536 : 9;
+        for (size_t i = 0; i < n; i++)
+            in[i] = 0x00800000 + (uint32_t)(draw() % (4u << 23));
+        in[draw() % n] = one[k / 2 % 6];
+        pack("a layer with one subnormal single", in, n, n);
+    }
+}
+
+static void every_unpacking(void) {
+    static uint16_t codes[LONG];
+    uint32_t patterns[4];
+    int32_t exponents[4];
+    const uint32_t ends[4] = {0x007FFFFF, 0x00000001, 0x00800000, 0x00400001};
+    for (int k = 0; k < 2000; k++) {
+        size_t length = k < 40 ? 65536 : 1 + draw() % 99, layers = k < 40 ? 1 : 1 + draw() % 4;
+        for (size_t i = 0; i < length * layers; i++)
+            codes[i] = (uint16_t)(k < 40 ? i : draw());
+        for (size_t j = 0; j < layers; j++) {
+            uint32_t field = draw() % 3 ? 0 : (uint32_t)(draw() % 255);
+            patterns[j] = (uint32_t)(draw() & 1) << 31 | (draw() % 5 ? field << 23 | (uint32_t)(draw() & ((1u << draw() % 24) - 1)) : ends[draw() % 4]);
+            exponents[j] = draw() % 4 ? (int32_t)(draw() % 264) - 149 : -149 + (int32_t)(draw() % 9);
+        }
+        if (k % 50 == 49)
+            exponents[0] = k % 100 == 99 ? -150 : 115;
+        unpack("codes of references of every kind", codes, length * layers, length, patterns, exponents);
     }
 }
 
@@ -195,7 +225,7 @@ static void every_direction(void) {
             _mm_setcsr(directions[i % 3]);
             uint64_t other = megharutti_trim_single(any[i], ABSOLUTE, p, mark, 0);
             _mm_setcsr(USUAL);
-            same("the loader's call, another direction", ABSOLUTE, p, directions[i % 3], usual == other);
+            same("the loader's call, another direction", "method", ABSOLUTE, "setting", p, directions[i % 3], usual == other);
         }
 }
 
@@ -254,10 +284,12 @@ int main(void) {
         puts("settings: this program shows nothing: link it with -ffast-math");
         return 2;
     }
+    setvbuf(stdout, NULL, _IONBF, 0); /* a float exception that is trapped ends this program, and loses no line */
     fill();
     cases();
     every_trim();
-    every_layer();
+    every_packing();
+    every_unpacking();
     every_direction();
     printf("settings: %" PRIu64 " calls, %" PRIu64 " differ; %" PRIu64 " cases wrong\n", calls, differing, wrong);
     return differing || wrong;

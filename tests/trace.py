@@ -1,6 +1,6 @@
 #!/usr/bin/env python3
-"""Checks docs/TRACE.md and docs/PAPERS.md: what they refer to must exist. And docs/PROMISES.md's list of calls open to users: a crate with functions
-stands there, or says in its first lines that it is internal.
+"""Checks docs/TRACE.md and docs/PAPERS.md: what they refer to must exist. And docs/PROMISES.md's list of calls open to users: a
+library crate stands there with each of its public functions, or says in its first lines that it is internal.
 
 A row of the trace is `| clause | definition | contract or theorem | must-fail edit | test |`. Each cell after the first holds references in
 backticks, parted by a space or <br>, and nothing else; under must-fail edit these are .edit files. Where nothing stands, the cell holds one
@@ -77,17 +77,35 @@ def papers():
         yield name if name.startswith("crates/") else f"crates/papers/{folder}/{name}"
 
 
-def opened():
-    """Faults of the list of calls open to users: a library with functions has calls on it, or its first comment says 'Internal:', and not both."""
+def calls():
+    """docs/PROMISES.md's list of calls open to users: each crate with the names that stand there. 'there' is the crate of the row before."""
     section = PROMISES.read_text(encoding="utf8").split("## The calls open to users")[1].split("\n## ")[0]
-    listed = set(re.findall(r"crates/(\w+)/src/lib\.rt", section))
+    listed, crate = {}, None
+    for cell in re.findall(r"(?m)^\| ([^|]*`[^|]*) \|", section):
+        crate = (re.search(r"`crates/(\w+)/src/lib\.rt`", cell) or [None, crate])[1]
+        listed.setdefault(crate, set()).update(re.findall(r"`(\w+)`", cell.partition(" in ")[0].partition(" there")[0]))
+    return listed
+
+
+def opened():
+    """Faults of that list: a library with functions stands there, each public function by its name and none with a 'requires', or its first lines say 'Internal:'."""
+    listed = calls()
     if not listed:
         yield "docs/PROMISES.md: no call is open to users"
     for path in sorted(ROOT.glob("crates/*/src/lib.rt")):
         name, text = path.parts[-3], path.read_text(encoding="utf8")
         first = re.match(r"(?://.*\n)*", text)[0]
-        if (re.search(r"\b(?:fn|mod|const) \w", text) or name in listed) and (name in listed) == ("Internal:" in first):
-            yield f"crates/{name}/src/lib.rt: its first lines and docs/PROMISES.md's list of calls don't say the same"
+        public = dict(re.findall(r'(?ms)^ *pub (?:extern "C" )?fn (\w+)(.*?)^ *\{', text))
+        if name not in listed:
+            if re.search(r"\b(?:fn|mod|const) \w", text) and "Internal:" not in first:
+                yield f"crates/{name}/src/lib.rt: it is not on docs/PROMISES.md's list of calls, and its first lines don't say that it is internal"
+            continue
+        if set(public) != listed[name] or "Internal:" in first:
+            yield f"crates/{name}/src/lib.rt: its public functions, and docs/PROMISES.md's list of calls, differ: {set(public) ^ listed[name] or 'Internal'}"
+        for call in (call for call, contract in public.items() if "requires" in contract):
+            yield f"crates/{name}/src/lib.rt: {call}: a call open to users has a 'requires'"
+    for name in listed.keys() - {path.parts[-3] for path in ROOT.glob("crates/*/src/lib.rt")}:
+        yield f"docs/PROMISES.md: {name}: no such crate"
 
 
 def main():

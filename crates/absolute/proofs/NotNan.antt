@@ -1,5 +1,5 @@
 -- What is no NaN: whatever is rounded, and so a sum of two finite values, less one of them, also where the sum is infinite.
-use mathlib.Core.Path.{refl}
+use mathlib.Core.Path.{ap}
 use mathlib.Core.Bool.{Bool, true, false, cond, not, Bool·beq, _&&_}
 use Prim.Native.Nat.{ℕ, zero, suc, _+_, _-_, _*_, _/_, _^_}
 use lib.Dec.{T, ltb}
@@ -52,13 +52,13 @@ add-number f (fin s m e) nan t b c p k = absurd k
 add-number f (fin s m e) (inf u) t b c p k = absurd k
 add-number f (fin s m e) (fin u n d) t b c p k = sum-number f s (m * up e * down d) u (n * up d * down e) (down e * down d)
 
-neg-value : (y : Float) (b c : ℕ) → HasValue y false b c → HasValue (neg y) true b c
+pub neg-value : (y : Float) (s : Bool) (b c : ℕ) → HasValue y s b c → HasValue (neg y) (not s) b c
 unfolding neg
-neg-value nan b c h = absurd h
-neg-value (inf s) b c h = absurd h
-neg-value (fin s n d) b c h = rw (h .0) (refl, h .1)
+neg-value nan s b c h = absurd h
+neg-value (inf t) s b c h = absurd h
+neg-value (fin t n d) s b c h = (ap not (h .0), h .1)
 
 pub difference-number : (f : Format) (x y : Float) (a b c : ℕ) → HasValue x false a c → HasValue y false b c → Number (sub f (add f x y) y)
 unfolding sub
 difference-number f x y a b c h k =
-    add-number f (add f x y) (neg y) true b c (add-number f x y false b c (value-number x false a c h) k) (neg-value y b c k)
+    add-number f (add f x y) (neg y) true b c (add-number f x y false b c (value-number x false a c h) k) (neg-value y false b c k)

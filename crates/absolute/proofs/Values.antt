@@ -54,6 +54,12 @@ value-bits f (fin t m e) s a h = rw (h .0, h .1, mul-div-cancel a (down-pos e)) 
 pub same-value : (f : Format) (s : Bool) (a : ℕ) (x y : Float) → T (fits f x) → T (fits f y) → HasValue x s a (2 ^ low f) → HasValue y s a (2 ^ low f) → x ≡ y
 same-value f s a x y p q h k = sym (ofBits-toBits f x p) ∙ ap (ofBits f) (value-bits f x s a h ∙ sym (value-bits f y s a k)) ∙ ofBits-toBits f y q
 
+-- the same value in finer units
+pub value-finer : (x : Float) (s : Bool) (a c k : ℕ) → HasValue x s a c → HasValue x s (a * k) (c * k)
+value-finer nan s a c k h = absurd h
+value-finer (inf t) s a c k h = absurd h
+value-finer (fin t m e) s a c k h = (h .0, sym (mul-assoc (m * up e) c k) ∙ ap (λ (x : ℕ). x * k) (h .1) ∙ mul-right-comm a (down e) k)
+
 module _ (f : Format) (m : ℕ) (h : m < infinity (prec f - 1) (exponentBits f)) where
   under : m < ones f * hid f
   under = rw (infinity-is f) at h

@@ -1,7 +1,8 @@
 // Method 5 of document 01 on one finite magnitude. The unit is 2^q least spacings: q is the setting plus 149 for singles, plus 1074 for doubles.
 // For all but the largest and the smallest units the float adder rounds to the unit, with no branch (`fine_..`); for every unit whole numbers do, more slowly, and clip
 // (`coarse_..`). With the units of `fine_..` the adder never has to tell a subnormal number from zero: such a reading is below half a unit, and a multiple of the unit
-// is zero or a normal number. So a caller's program may have its machine take subnormal numbers for zero.
+// is zero or a normal number. So a caller's program may have its machine take subnormal numbers for zero. Rattle's logic knows nothing of that, and no proof needs the least
+// unit that `fine_..` ask for: tests/settings.c does.
 // Internal: the calls open to users are those of `trim`.
 ghost use mathlib.Core.Path.{_≡_};
 ghost use mathlib.Core.Bool.{cond};

@@ -1,36 +1,28 @@
 -- A subnormal reference is its magnitude times the least spacing, as a double too.
-use mathlib.Core.Path.{_≡_, refl, sym, ap, _∙_, subst}
-use mathlib.Core.Bool.{Bool, true, false, not}
+use mathlib.Core.Path.{_≡_, refl, sym, subst}
+use mathlib.Core.Bool.{Bool, true, false}
 use Prim.Native.Nat.{ℕ, _*_, _%_, _^_, _<_, _≤_}
-use native.Mathlib.Nat.{mul-assoc, mul-one, mul-right-comm}
+use native.Mathlib.Nat.{mul-one}
 use native.Mathlib.Omega.{arith}
 use borrow.Author.Tests.{le-leb, lt-leb}
 use lib.Dec.{T, leb}
 use lib.IntN.{pos, negsuc}
 use lib.Pow.{pow-add}
-use lib.Ieee.{Float, nan, inf, fin, binary32, binary64, up, down, neg, mul, ofInt, toBits, fits}
+use lib.Ieee.{Float, binary32, binary64, neg, mul, ofInt, toBits, fits}
 use lib.Ieee.Exact.{HasValue}
 use lib.Ieee.Fits.{fits-widens, mul-fits, neg-fits}
 use Rattle.meaning.specs.Readings.{magnitude}
 use Rattle.meaning.specs.Questions.{above}
 use Rattle.meaning.proofs.Sizes.{size-small}
-use Rattle.absolute.proofs.Values.{same-value}
+use Rattle.absolute.proofs.NotNan.{neg-value}
+use Rattle.absolute.proofs.Values.{value-finer, same-value}
 use Rattle.decoding.specs.Floats.{finiteFloat, twoTo}
 use Rattle.decoding.proofs.References.{pattern-value}
 use Rattle.decoding.proofs.Sums.{product-exact}
 
 -- a value in least spacings of doubles
 in-doubles : (x : Float) (s : Bool) (a : ℕ) → HasValue x s a (2 ^ 149) → HasValue x s (a * 2 ^ 925) (2 ^ 1074)
-in-doubles nan s a h = absurd h
-in-doubles (inf t) s a h = absurd h
-in-doubles (fin t m e) s a h =
-    (h .0, ap (λ (z : ℕ). m * up e * z) (pow-add 2 149 925) ∙ sym (mul-assoc (m * up e) (2 ^ 149) (2 ^ 925)) ∙ ap (λ (z : ℕ). z * 2 ^ 925) (h .1) ∙ mul-right-comm a (down e) (2 ^ 925))
-
-neg-value : (x : Float) (s : Bool) (a c : ℕ) → HasValue x s a c → HasValue (neg x) (not s) a c
-unfolding neg
-neg-value nan s a c h = absurd h
-neg-value (inf t) s a c h = absurd h
-neg-value (fin t m e) s a c h = (ap not (h .0), h .1)
+in-doubles x s a h = rw (sym (pow-add 2 149 925)) (value-finer x s a (2 ^ 149) (2 ^ 925) h)
 
 module _ (x : Float) (fit : T (fits binary32 x)) (finite : finiteFloat x ≡ true) where
   abbrev w : ℕ

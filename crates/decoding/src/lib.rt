@@ -23,7 +23,7 @@ pub fn step_of(exponent: i32) -> f64
     f64::from_bits(((exponent + 1023) as u64) << 52)
 }
 
-// A reference that is no subnormal number as a double: the machine's own widening.
+// A normal reference as a double: the machine's own widening. No proof needs that it is normal: tests/settings.c does.
 fn widened_normal(reference: f32) -> f64
     requires { ⌜ finiteFloat reference ≡ true ⌝ }
     requires { ⌜ 2 ^ 23 ≤ magnitude 23 8 (toBits binary32 reference) ⌝ }
@@ -33,7 +33,7 @@ fn widened_normal(reference: f32) -> f64
 }
 
 // The reference as a double, exact. Zero or a subnormal number goes by its magnitude, which counts least spacings: a caller's program may have its machine take
-// subnormal numbers for zero, and its own widening would then lose them.
+// subnormal numbers for zero, and its own widening would then lose them. In a loop over codes the compiler does this once.
 fn widened(reference: f32) -> f64
     requires { ⌜ finiteFloat reference ≡ true ⌝ }
     ensures { λ r. ⌜ r ≡ reference ⌝ }

@@ -2,9 +2,9 @@
 -- which then stand in the last bits of the pattern.
 use mathlib.Core.Path.{_≡_, refl, sym, ap, _∙_}
 use mathlib.Core.Logic.{_≢_, inr}
-use mathlib.Core.Bool.{Bool, true, false, cond, not, _&&_, true≢false}
+use mathlib.Core.Bool.{Bool, true, false, cond, _&&_, true≢false}
 use Prim.Native.Nat.{ℕ, zero, _+_, _-_, _*_, _%_, _^_, _≤_, _<_}
-use native.Mathlib.Nat.{lt-of-lt-of-le, mul-assoc, mul-pos, mul-right-comm, mul-lt-mul-of-pos-right, zero-mul, sub-zero, zero-add}
+use native.Mathlib.Nat.{lt-of-lt-of-le, mul-assoc, mul-pos, mul-lt-mul-of-pos-right, zero-mul, sub-zero, zero-add}
 use native.Mathlib.Decide.{decLt}
 use native.Mathlib.Omega.{arith}
 use borrow.Author.Tests.{lt-ltb, le-ltb}
@@ -19,16 +19,11 @@ use Rattle.meaning.specs.Readings.{size, infinity}
 use Rattle.meaning.specs.Methods.{nearest}
 use Rattle.meaning.proofs.Nearest.{nearest-scale, nearest-between}
 use Rattle.meaning.proofs.Sizes.{size-at}
-use Rattle.absolute.proofs.Values.{left-cross, right-cross, minus-cross, less-cross, add-values, sub-values, size-bits}
+use Rattle.absolute.proofs.NotNan.{neg-value}
+use Rattle.absolute.proofs.Values.{value-finer, left-cross, right-cross, minus-cross, less-cross, add-values, sub-values, size-bits}
 use Rattle.absolute.proofs.Adding.{sum-value}
 
 -- ---- values with a sign
-
-pub neg-value : (y : Float) (s : Bool) (b c : ℕ) → HasValue y s b c → HasValue (neg y) (not s) b c
-unfolding neg
-neg-value nan s b c h = absurd h
-neg-value (inf t) s b c h = absurd h
-neg-value (fin t n d) s b c h = (ap not (h .0), h .1)
 
 -- b less a, where a is not above b
 minus-plus : (f : Format) (a b c : ℕ) → 0 < c → a ≤ b → (x y : Float) → HasValue x true a c → HasValue y false b c → add f x y ≡ round f false (b - a) c
@@ -74,12 +69,6 @@ two-zeros f c p (fin u m e) (fin v n g) h k =
     let l = left-cross (m * up e) 0 c (down g) (down e) (h .1) in
     let r = right-cross (n * up g) 0 c (down g) (down e) (k .1) in
     rw (h .0, k .0) (round-same f true (m * up e * down g + n * up g * down e) (down e * down g) 0 c (mul-pos (down-pos e) (down-pos g)) p (omega arith))
-
--- the same value in finer units
-value-finer : (x : Float) (s : Bool) (a c k : ℕ) → HasValue x s a c → HasValue x s (a * k) (c * k)
-value-finer nan s a c k h = absurd h
-value-finer (inf t) s a c k h = absurd h
-value-finer (fin t m e) s a c k h = (h .0, sym (mul-assoc (m * up e) c k) ∙ ap (λ (x : ℕ). x * k) (h .1) ∙ mul-right-comm a (down e) k)
 
 -- ---- the difference of two readings
 

@@ -11,11 +11,10 @@ use lib.Ieee.{binary32, binary64, ofBits, nanBits, add, sub, neg}
 use lib.Ieee.Bits.{nanBits-is}
 use Rattle.meaning.specs.Readings.{magnitude, infinity}
 use Rattle.meaning.proofs.Patterns.{below-finite}
-use Rattle.absolute.proofs.NotNan.{Number, add-number}
+use Rattle.absolute.proofs.NotNan.{Number, add-number, neg-value}
 use Rattle.absolute.proofs.Fine.{offset-value}
 use Rattle.decoding.proofs.References.{bits-value}
 use Rattle.summary.proofs.Patterns.{no-nan}
-use Rattle.quick.proofs.Doubles.{neg-value}
 
 -- the pattern that is coded
 pub coded : (w mark r p : ℕ) → (w ≢ mark → magnitude 23 8 w < infinity 23 8) → magnitude 23 8 r < infinity 23 8 → p ≡ cond (eqb w mark) r w → magnitude 23 8 p < infinity 23 8

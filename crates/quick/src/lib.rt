@@ -32,8 +32,8 @@ fn finest_magnitude(readings: &[u32], mark: u32) -> u32
     least
 }
 
-// The first magnitude of a normal number whose spacing is at least 2^(e - 37). A layer with a subnormal reading goes by words, so that a caller's program may have
-// its machine take subnormal numbers for zero.
+// The first magnitude of a normal number whose spacing is at least 2^(e - 37); where e is below 37, of any normal number. A layer with a subnormal reading goes by words, so
+// that a caller's program may have its machine take subnormal numbers for zero. No proof needs that of a reading: tests/settings.c does.
 fn limit_of(e: u32) -> u32
     requires { ⌜ e ≤ 263 ⌝ }
     ensures { λ r. ⌜ r ≡ (e - 37 + 1) * 8388608 ⌝ }
@@ -41,7 +41,7 @@ fn limit_of(e: u32) -> u32
     if e < 37 {
         return 8388608;
     }
-    (e - 37 + 1) * 8388608
+    (e - 36) * 8388608
 }
 
 // The layer's part of every code.
