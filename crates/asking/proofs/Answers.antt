@@ -30,26 +30,21 @@ module _ (F X method : ℕ) (s : ℤ) where
   unfolding settingInRange numberOf
   digits-marked h = simp (lt-leb method 4 (omega arith), ne-eqb method 5 (λ e. omega arith))
 
-  -- the answer for the code's number n, since no setting in range is 4096
+  -- the answer for the code's number n, since no setting in range is 4096: the refusal, and the number, which is 0 after a refusal
   module _ (small : method ≤ 6 → settingInRange F X method s ≡ true → numberOf F X method s < 4096) (n : ℕ) (e : n ≡ marked F X method s) where
-    pub refusal-is : cond (leb method 6) (cond (eqb n 4096) 2 0) 1 ≡ refusalOf F X method s
-    unfolding refusalOf
-    refusal-is = go (leb method 6) refl (settingInRange F X method s) refl
-      where
-        go : (a : Bool) → leb method 6 ≡ a → (b : Bool) → settingInRange F X method s ≡ b → cond (leb method 6) (cond (eqb n 4096) 2 0) 1 ≡ refusalOf F X method s
-        go true p true q = let y = simp q at e in let z = small (leb-true method 6 p) q in simp (p, q, ne-eqb n 4096 (λ m. omega arith))
-        go true p false q = let y = simp q at e in simp (p, q, eq-eqb n 4096 y)
-        go false p b q = simp p
-
-    -- and its number, which is 0 after a refusal
-    pub number-is : cond (leb method 6) (cond (eqb n 4096) 0 n) 0 ≡ askedNumber F X method s
+    pub answer-is : (cond (leb method 6) (cond (eqb n 4096) 2 0) 1 ≡ refusalOf F X method s) × (cond (leb method 6) (cond (eqb n 4096) 0 n) 0 ≡ askedNumber F X method s)
     unfolding refusalOf askedNumber
-    number-is = go (leb method 6) refl (settingInRange F X method s) refl
+    answer-is = go (leb method 6) refl (settingInRange F X method s) refl
       where
-        go : (a : Bool) → leb method 6 ≡ a → (b : Bool) → settingInRange F X method s ≡ b → cond (leb method 6) (cond (eqb n 4096) 0 n) 0 ≡ askedNumber F X method s
-        go true p true q = let y = simp q at e in let z = small (leb-true method 6 p) q in simp (p, q, ne-eqb n 4096 (λ m. omega arith)) y
-        go true p false q = let y = simp q at e in simp (p, q, eq-eqb n 4096 y)
-        go false p b q = simp p
+        go : (a : Bool) → leb method 6 ≡ a → (b : Bool) → settingInRange F X method s ≡ b
+            → (cond (leb method 6) (cond (eqb n 4096) 2 0) 1 ≡ refusalOf F X method s) × (cond (leb method 6) (cond (eqb n 4096) 0 n) 0 ≡ askedNumber F X method s)
+        go true p true q =
+            let y = simp q at e in
+            let z = small (leb-true method 6 p) q in
+            let t = ne-eqb n 4096 (λ m. omega arith) in
+            (simp (p, q, t), simp (p, q, t) y)
+        go true p false q = let y = simp q at e in let t = eq-eqb n 4096 y in (simp (p, q, t), simp (p, q, t))
+        go false p b q = (simp p, simp p)
 
   -- the number of an accepted job is the natural setting
   pub asked-number : refusalOf F X method s ≡ 0 → askedNumber F X method s ≡ numberOf F X method s

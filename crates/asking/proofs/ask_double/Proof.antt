@@ -2,7 +2,7 @@
 use mathlib.Core.Path.{ap, _∙_}
 use mir.Facts.{toZ-ofZ}
 use borrow.Author.Needs.{needs}
-use Rattle.asking.proofs.Answers.{marked, refusal-is, number-is, double-small}
+use Rattle.asking.proofs.Answers.{marked, answer-is, double-small}
 use Rattle.asking.proofs.ask_double.Statement.{statement}
 use Rattle.asking.proofs.ask_double.Tie as tie
 
@@ -18,7 +18,8 @@ returns c =
     let method = s .args .method in
     let z = s .args .setting in
     let e = c .before .number-double .ensures ∙ ap (marked 52 11 method) (toZ-ofZ (s .fits .setting)) in
-    (c .answer .ensures .0 ∙ refusal-is 52 11 method z (double-small method z) _ e, c .answer .ensures .1 ∙ number-is 52 11 method z (double-small method z) _ e)
+    let a = answer-is 52 11 method z (double-small method z) _ e in
+    (c .answer .ensures .0 ∙ a .0, c .answer .ensures .1 ∙ a .1)
 
 pub ask-double-spec : {M : Type 1} → statement M
 ask-double-spec = tie.close (tie.spec number-double-requires answer-requires returns)

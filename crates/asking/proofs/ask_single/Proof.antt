@@ -2,7 +2,7 @@
 use mathlib.Core.Path.{ap, _∙_}
 use mir.Facts.{toZ-ofZ}
 use borrow.Author.Needs.{needs}
-use Rattle.asking.proofs.Answers.{marked, refusal-is, number-is, single-small}
+use Rattle.asking.proofs.Answers.{marked, answer-is, single-small}
 use Rattle.asking.proofs.ask_single.Statement.{statement}
 use Rattle.asking.proofs.ask_single.Tie as tie
 
@@ -18,7 +18,8 @@ returns c =
     let method = s .args .method in
     let z = s .args .setting in
     let e = c .before .number-single .ensures ∙ ap (marked 23 8 method) (toZ-ofZ (s .fits .setting)) in
-    (c .answer .ensures .0 ∙ refusal-is 23 8 method z (single-small method z) _ e, c .answer .ensures .1 ∙ number-is 23 8 method z (single-small method z) _ e)
+    let a = answer-is 23 8 method z (single-small method z) _ e in
+    (c .answer .ensures .0 ∙ a .0, c .answer .ensures .1 ∙ a .1)
 
 pub ask-single-spec : {M : Type 1} → statement M
 ask-single-spec = tie.close (tie.spec number-single-requires answer-requires returns)
