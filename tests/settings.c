@@ -131,7 +131,7 @@ static void every_trim(void) {
         trim_singles("subnormal singles, and a subnormal mark", tiny, ABSOLUTE, p, 0x00400000, begun);
         trim_singles("mixed singles", mixed, ABSOLUTE, p, mark, begun);
         trim_singles("all singles", any, ABSOLUTE, p, mark, begun);
-        trim_singles("powers of two", powers, ABSOLUTE, p, mark, begun);
+        trim_singles("2^k and 3 * 2^k least spacings", powers, ABSOLUTE, p, mark, begun);
     }
     for (int p = -1075; p <= 1024; p++) {
         trim_doubles("subnormal doubles", wide_tiny, ABSOLUTE, p, wide_mark, begun);
@@ -176,14 +176,14 @@ static void every_packing(void) {
                 in[i] = i % 9 ? 1 + (uint32_t)(draw() % 0x01000000) : 1;
         pack("layers with a subnormal reference", in, n, length);
     }
-    /* one subnormal single among normal ones, the largest and the smallest of them, in a short layer and in the longest */
+    /* one subnormal single, or -0, among normal ones, in a short layer and in the longest */
     const uint32_t one[6] = {0x007FFFFF, 0x807FFFFF, 0x00000001, 0x80000001, 0x00400000, 0x80000000};
     for (int k = 0; k < 60; k++) {
         size_t n = k % 2 ? 65536 : 9;
         for (size_t i = 0; i < n; i++)
             in[i] = 0x00800000 + (uint32_t)(draw() % (4u << 23));
         in[draw() % n] = one[k / 2 % 6];
-        pack("a layer with one subnormal single", in, n, n);
+        pack("a layer with one subnormal single or -0", in, n, n);
     }
 }
 
