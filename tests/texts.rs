@@ -865,8 +865,23 @@ fn run(program: &[String], text: &Text) -> Printed {
     PROCESS.store(0, SeqCst);
     let done = done.expect("what the program printed");
     let signal = done.status.signal().map(|signal| format!("ended by signal {signal}"));
-    let said = (!done.stderr.is_empty()).then(|| format!("standard error: {}", shown(&done.stderr, 0)));
+    let said = (!is_said(&done.stdout, &done.stderr)).then(|| format!("standard error: {}", shown(&done.stderr, 0)));
     Printed { out: done.stdout, status: done.status.code(), fault: signal.or(said) }
+}
+
+/// Is this what may stand on standard error: nothing beside an answer, and beside a refusal one line with a reason of its kind? The reasons themselves are compared in
+/// tests/reasons.txt; here it is seen that every refused text has one.
+fn is_said(out: &[u8], errors: &[u8]) -> bool {
+    let errors = String::from_utf8_lossy(errors);
+    let (job, range) = (errors.contains(" is none of "), errors.contains(" takes "));
+    let kind = match out {
+        b"refused,1\n" => job && !range,
+        b"refused,2\n" => range && !job,
+        b"refused,9\n" => !job && !range && !errors.contains("doesn't have the form"),
+        _ => return errors.is_empty(),
+    };
+    let line = errors.strip_prefix("trimlist: ").and_then(|rest| rest.strip_suffix('\n'));
+    kind && line.is_some_and(|line| !line.is_empty() && line.bytes().all(|byte| (32..127).contains(&byte)))
 }
 
 /// Some bytes from a place on, for telling.

@@ -8,7 +8,7 @@ from pathlib import Path
 ROOT = Path(__file__).resolve().parent.parent
 readme = re.search(r"(?m)^Version (\S+)$", (ROOT / "README.md").read_text(encoding="utf8"))
 header = re.search(r'#define MEGHARUTTI_VERSION "(\S+)"', (ROOT / "include" / "megharutti.h").read_text(encoding="utf8"))
-printed = subprocess.run([sys.argv[1], "--version"], stdin=subprocess.DEVNULL, capture_output=True, text=True).stdout
+printed = subprocess.run([sys.argv[1], "--version"], stdin=subprocess.DEVNULL, capture_output=True, text=True).stderr
 versions = [readme and readme[1], header and header[1], printed.partition("\n")[0].removeprefix("trimlist ")]
 print("version: README %s, header %s, program %s" % tuple(versions))
 sys.exit(len(set(versions)) != 1)

@@ -3,6 +3,7 @@
 ghost use Prim.Native.Nat.{_+_, _≤_};
 ghost use lib.ListN.{length};
 use libc::EINTR;
+use libc::STDERR_FILENO;
 use libc::STDIN_FILENO;
 use libc::STDOUT_FILENO;
 
@@ -76,11 +77,23 @@ fn write_answer(answer: &[u8]) {
     }
 }
 
-// Writes what `listing` answers to a text.
+// A refusal's number by its digit.
+fn number_of(digit: u8) -> u32 {
+    match digit {
+        b'1' => 1,
+        b'2' => 2,
+        _ => 9,
+    }
+}
+
+// Writes what `listing` answers to a text. Of all answers only a refusal has 10 bytes, `refused,9` and the newline: then the reason goes to standard error.
 fn answer(text: &[u8]) {
     let mut out = io::large_buffer();
     let n = listing::listing(text, &mut out);
     write_answer(&out[..n]);
+    if n == 10 {
+        text_reason::say(text, number_of(out[8]));
+    }
 }
 
 // The longest text that has the form has 37,052 bytes: 20 of the header, 32 of the job, 136 of the names and 512 lines of 72. Once 37,053 bytes
@@ -97,10 +110,11 @@ fn run() {
     answer(&text[..n]);
 }
 
-// The program takes no argument: whatever it is given, it says what it is.
+// The program takes no argument: whatever it is given, it says what it is. On standard error, so that no file takes this for an answer.
 fn about() {
-    write_answer(
-        b"trimlist 1.0.1\ntrims the text that it reads from standard input: trimlist <text\n",
+    io::write_all(
+        STDERR_FILENO,
+        b"trimlist 1.1.0\ntrims the text that it reads from standard input: trimlist <text\n",
     );
 }
 

@@ -26,8 +26,20 @@ slice-aggregate-write-answer c = sym (length-take-le _ _ (room (c .before)))
 write-answer-requires : tie.Need-write-answer-requires
 write-answer-requires c κs = search needs
 
+array-read-number-of : tie.Need-array-read-number-of
+array-read-number-of c = search needs
+
+number-of-requires : tie.Need-number-of-requires
+number-of-requires c κs = search needs
+
+say-requires : tie.Need-say-requires
+say-requires c κs = search needs
+
 returns : tie.Need-returns
 returns c = search needs
+
+returns-2 : tie.Need-returns-2
+returns-2 c = search needs
 
 pub answer-spec : {M : Type 1} → statement M
 answer-spec =
@@ -38,4 +50,8 @@ answer-spec =
     array-share-prefix-out
     slice-aggregate-write-answer
     write-answer-requires
-    returns)
+    array-read-number-of
+    number-of-requires
+    say-requires
+    returns
+    returns-2)
