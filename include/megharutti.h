@@ -1,7 +1,7 @@
 /* Megharutti: trims false precision from IEEE 754 singles and doubles, and packs singles into layers of 16-bit codes.
  *
  * Every call below is proved to give, for every input, what document 01 of the association defines. What is proved and what is assumed of
- * the caller stands in docs/PROMISES.md.
+ * the caller stands in docs/PROOFS.md.
  *
  * A reading is the bit pattern of a float, in a uint32_t (single) or a uint64_t (double). The mark is the pattern that means missing. It is
  * compared by its bits, and any pattern may be the mark.

@@ -1,5 +1,5 @@
 #!/usr/bin/env python3
-"""Checks docs/TRACE.md and docs/PAPERS.md: what they refer to must exist. And docs/PROMISES.md's list of calls open to users: a
+"""Checks docs/TRACE.md and docs/PAPERS.md: what they refer to must exist. And docs/PROOFS.md's list of calls open to users: a
 library crate stands there with each of its public functions, or says in its first lines that it is internal.
 
 A row of the trace is `| clause | definition | contract or theorem | must-fail edit | test |`. Each cell after the first holds references in
@@ -16,7 +16,7 @@ from pathlib import Path
 ROOT = Path(__file__).resolve().parent.parent
 TABLE = ROOT / "docs" / "TRACE.md"
 PAPERS = ROOT / "docs" / "PAPERS.md"
-PROMISES = ROOT / "docs" / "PROMISES.md"
+PROOFS = ROOT / "docs" / "PROOFS.md"
 PROVED = "Papers.antt#papers"
 GAP = "docs/DECISIONS.md#gap: "
 COLUMNS = ["definition", "contract or theorem", "must-fail edit", "test"]
@@ -78,8 +78,8 @@ def papers():
 
 
 def calls():
-    """docs/PROMISES.md's list of calls open to users: each crate with the names that stand there. 'there' is the crate of the row before."""
-    section = PROMISES.read_text(encoding="utf8").split("## The calls open to users")[1].split("\n## ")[0]
+    """docs/PROOFS.md's list of calls open to users: each crate with the names that stand there. 'there' is the crate of the row before."""
+    section = PROOFS.read_text(encoding="utf8").split("## The calls open to users")[1].split("\n## ")[0]
     listed, crate = {}, None
     for cell in re.findall(r"(?m)^\| ([^|]*`[^|]*) \|", section):
         crate = (re.search(r"`crates/(\w+)/src/lib\.rt`", cell) or [None, crate])[1]
@@ -91,21 +91,21 @@ def opened():
     """Faults of that list: a library with functions stands there, each public function by its name and none with a 'requires', or its first lines say 'Internal:'."""
     listed = calls()
     if not listed:
-        yield "docs/PROMISES.md: no call is open to users"
+        yield "docs/PROOFS.md: no call is open to users"
     for path in sorted(ROOT.glob("crates/*/src/lib.rt")):
         name, text = path.parts[-3], path.read_text(encoding="utf8")
         first = re.match(r"(?://.*\n)*", text)[0]
         public = dict(re.findall(r'(?ms)^ *pub (?:extern "C" )?fn (\w+)(.*?)^ *\{', text))
         if name not in listed:
             if re.search(r"\b(?:fn|mod|const) \w", text) and "Internal:" not in first:
-                yield f"crates/{name}/src/lib.rt: it is not on docs/PROMISES.md's list of calls, and its first lines don't say that it is internal"
+                yield f"crates/{name}/src/lib.rt: it is not on docs/PROOFS.md's list of calls, and its first lines don't say that it is internal"
             continue
         if set(public) != listed[name] or "Internal:" in first:
-            yield f"crates/{name}/src/lib.rt: its public functions, and docs/PROMISES.md's list of calls, differ: {set(public) ^ listed[name] or 'Internal'}"
+            yield f"crates/{name}/src/lib.rt: its public functions, and docs/PROOFS.md's list of calls, differ: {set(public) ^ listed[name] or 'Internal'}"
         for call in (call for call, contract in public.items() if "requires" in contract):
             yield f"crates/{name}/src/lib.rt: {call}: a call open to users has a 'requires'"
     for name in listed.keys() - {path.parts[-3] for path in ROOT.glob("crates/*/src/lib.rt")}:
-        yield f"docs/PROMISES.md: {name}: no such crate"
+        yield f"docs/PROOFS.md: {name}: no such crate"
 
 
 def main():

@@ -12,7 +12,7 @@ pub enum Packed {
 
 // Packs an array of singles, layer by layer. Each layer has `length` readings; the mark means missing and is compared by its bits. Each layer leaves a code for each
 // reading, a reference and a step exponent. Or answers the refusal's number, and then no array is touched: 3 for a length that isn't 1 to 65,536, 4 where the readings
-// are no whole number of layers, 5 where another array has the wrong length, 6 where a reading is neither finite nor the mark.
+// do not fill whole layers, 5 where another array has the wrong length, 6 where a reading is neither finite nor the mark.
 pub fn pack(
     readings: &[u32],
     mark: u32,
