@@ -4,7 +4,7 @@ use lib.Dec.{lit<}
 use Rattle.meaning.proofs.CasesRows.{afterAll}
 use Rattle.papers.specs.Moved.{moved}
 use Rattle.papers.specs.Listings.{masked, maskedHalf, addedMasked}
-use Rattle.papers.specs.Cases.{Attained, PiTables, Subnormal, Printed, DecimalBeyond, DigitsAgain, HalfshaveSharper, HalfshaveGroomed, ListingsBeyond, LayerTop}
+use Rattle.papers.specs.Cases.{Attained, PiTables, Subnormal, Printed, DecimalBeyond, DigitsAgain, DigitsLeft, HalfshaveSharper, HalfshaveGroomed, ListingsBeyond, LayerTop}
 
 pub attained : Attained
 unfolding afterAll moved
@@ -42,6 +42,10 @@ decimal-beyond = record { subnormal-digit = lit< tt; bit-less = lit< tt; hundred
 pub digits-again : DigitsAgain
 unfolding afterAll moved
 digits-again = record { once-more = (refl, refl); two-cycle = (refl, refl) }
+
+pub digits-left : DigitsLeft
+unfolding afterAll moved
+digits-left = record { left-decade = (refl, lit< tt); bit-attained = (refl, refl) }
 
 pub halfshave-sharper : HalfshaveSharper
 unfolding afterAll

@@ -1,23 +1,23 @@
 -- 002's equations. The step is a power of two that is at most the size, so its multiples are the shaved magnitudes of the reading's binade, and their midpoints the halfshaved ones.
 use mathlib.Core.Path.{_≡_, refl, sym, ap, _∙_}
 use mathlib.Core.Logic.{_⊎_, inl, inr, _≢_}
-use Prim.Native.Nat.{ℕ, suc, _+_, _-_, _*_, _/_, _%_, _^_, _≤_, _<_, zero-le}
+use Prim.Native.Nat.{ℕ, zero, suc, _+_, _-_, _*_, _/_, _%_, _^_, _≤_, _<_, zero-le}
 use native.Mathlib.Nat.{le-refl, le-div-iff-mul-le, mul-le-mul-left, mul-le-mul-right, pow-suc, pow-le-pow-right, one-le-pow, le-trans, le-of-mul-le-mul-right, div-mul-le-self, div-eq-of-lt-le, pos-of-ne-zero, sub-le, sub-self, mul-lt-mul-of-pos-right, mod-lt, mul-div-cancel}
 use native.Mathlib.Decide.{decLe, decLt, ℕ-discrete}
 use native.Mathlib.Omega.{arith}
 use borrow.Author.Tests.{eq-eqb, ne-eqb, lt-ltb, le-ltb}
 use lib.Pow.{pow-pos, pow-add, pow-mono}
-use Rattle.meaning.specs.Readings.{size, distance, spacing, spacingExp, exponentField, magnitude, infinity, leastExp}
-use Rattle.meaning.specs.Methods.{tail, halfshave, digits, unit, digitCount, decade, digitStep, digitSize, tailChanged, shaved, newMagnitude}
-use Rattle.meaning.proofs.Sizes.{size-at}
-use Rattle.meaning.proofs.Patterns.{magnitudeOf-size}
+use Rattle.meaning.specs.Readings.{size, position, distance, spacing, spacingExp, exponentField, magnitude, infinity, leastExp}
+use Rattle.meaning.specs.Methods.{tail, halfshave, digits, unit, digitCount, decade, digitStep, digitSize, tailChanged, shaved, newMagnitude, result, trimmed}
+use Rattle.meaning.proofs.Sizes.{size-at, size-small, size-mono}
+use Rattle.meaning.proofs.Patterns.{magnitudeOf-size, position-distance}
 use Rattle.meaning.proofs.Powers.{pow-split, pow-le}
 use Rattle.meaning.proofs.Grid.{Grid, grid, shaved-is}
 use Rattle.meaning.proofs.Tails.{agree-up, agree-finite, tail-changed-agree}
 use Rattle.meaning.proofs.Digits.{Decade, decade-rule, digit-count}
 use Rattle.papers.specs.Moved.{moved}
-use Rattle.papers.specs.DigitRounding.{AsHalfshave, DigitBounds}
-use Rattle.papers.proofs.Apart.{distance-self, left-has, moved-has}
+use Rattle.papers.specs.DigitRounding.{AsHalfshave, LowestBit, DigitBounds}
+use Rattle.papers.proofs.Apart.{distance-self, trimmed-has, left-has, moved-has, result-magnitude, result-below, result-sign}
 use Rattle.papers.proofs.TailValues.{halfshave-none, halfshave-some}
 use Rattle.papers.proofs.Steps.{size-below, shaved-size, halfshave-step}
 
@@ -218,6 +218,92 @@ module _ (F X : ℕ) where
   half-step n mark place w h =
       moved-has F X (digits n) h place w mark (λ d. 2 * d ≤ digitStep F X n (magnitude F X w)) zero-le (λ f. half-moved n place (magnitude F X w) h f)
 
+  -- ---- by what is left
+
+  zero-left : (m : ℕ) → m ≡ 0 → size F m ≡ 0
+  zero-left m z = ap (size F) z ∙ size-small F 0 (pow-pos F)
+
+  some-left : (m : ℕ) → 0 < size F m → 0 < m
+  some-left m h = go (ℕ-discrete m 0)
+    where
+      go : Dec (m ≡ 0) → 0 < m
+      go (yes z) = absurd (omega (arith, zero-left m z))
+      go (no z) = pos-of-ne-zero z
+
+  -- at least half of the size is left: the step is at most the size, and half of it is the most that is lost
+  half-left : (n place m : ℕ) → 1 ≤ n → 0 < m → m < infinity F X → size F m ≤ 2 * size F (newMagnitude F X (digits n) place m)
+  unfolding distance
+  half-left n place m h p f = omega (arith, half-moved n place m h f, step-size n m h p)
+
+  -- of two sizes, one at most twice the other, the decade of the one is at most the other's and one
+  decade-next : (m v : ℕ) → 0 < m → size F m ≤ 2 * size F v → decade F X m ≤ suc (decade F X v)
+  decade-next m v p h = go (decade-rule F X m p) (decade-rule F X v (some-left v (omega (arith, size-mono F p))))
+    where
+      far : (a : Decade F X m (decade F X m)) → Dec (a .one-less ≤ decade F X v) → Decade F X v (decade F X v) → decade F X m ≤ suc (decade F X v)
+      far a (yes l) b = omega (arith, a .is)
+      far a (no l) b =
+          let next : 10 ^ suc (decade F X v) ≤ 10 ^ a .one-less = pow-le-pow-right {n = 10} (omega arith) {i = suc (decade F X v)} {j = a .one-less} (omega arith) in
+          let up : 10 ^ decade F X v * 10 ≤ 10 ^ a .one-less = rw (← pow-suc 10 (decade F X v)) next in
+          let some : 1 ≤ 10 ^ decade F X v = one-le-pow (decade F X v) 10 (omega arith) in
+          absurd (omega (arith, a .reaches, b .under, mul-le-mul-right (2 ^ B) up, mul-le-mul-right (10 ^ B) h, mul-le-mul-right (2 ^ B) some, pow-pos B))
+
+      go : Decade F X m (decade F X m) → Decade F X v (decade F X v) → decade F X m ≤ suc (decade F X v)
+      go a b = far a (decLe (a .one-less) (decade F X v)) b
+
+  decade-left : (n mark place w : ℕ) → 1 ≤ n → decade F X (magnitude F X w) ≤ suc (decade F X (magnitude F X (trimmed F X (digits n) mark place w)))
+  decade-left n mark place w h = left-has F X (digits n) h place w mark (λ v. decade F X (magnitude F X w) ≤ suc (decade F X v)) (omega arith) (λ f. go f (ℕ-discrete (magnitude F X w) 0))
+    where
+      go : magnitude F X w < infinity F X → Dec (magnitude F X w ≡ 0) → decade F X (magnitude F X w) ≤ suc (decade F X (newMagnitude F X (digits n) place (magnitude F X w)))
+      go f (yes z) = rw (digits-zero n place (magnitude F X w) z) (omega arith)
+      go f (no z) = decade-next (magnitude F X w) _ (pos-of-ne-zero z) (half-left n place (magnitude F X w) h (pos-of-ne-zero z) f)
+
+  abbrev Bit : ℕ → ℕ → ℕ → Type 0
+  Bit n place m = LowestBit (distance (size F m) (size F (newMagnitude F X (digits n) place m))) (size F (newMagnitude F X (digits n) place m))
+
+  -- the new size is an odd multiple of half a step
+  bit : (n place m : ℕ) → 1 ≤ n → m < infinity F X → Bit n place m
+  unfolding digitSize spacing
+  bit n place m h f = go (ℕ-discrete m 0)
+    where
+      none : newMagnitude F X (digits n) place m ≡ m → Bit n place m
+      none e = record { within = inl (rw e (distance-self (size F m))) }
+
+      q : ℕ
+      q = digitStep F X n m
+
+      odd : m ≢ 0 → 2 * spacing F m ≤ q → (j : ℕ) → q ≡ 2 ^ suc j → size F (newMagnitude F X (digits n) place m) ≡ (2 * (size F m / q) + 1) * 2 ^ j
+      odd z l j e =
+          lands n place m h f .exact z ∙ rw (le-ltb q (2 * spacing F m) l)
+          (let half : q / 2 ≡ 2 ^ j = ap (λ (x : ℕ). x / 2) (e ∙ pow-suc 2 j) ∙ mul-div-cancel (2 ^ j) {n = 2} (omega arith) in
+          let twice : q ≡ 2 ^ j * 2 = e ∙ pow-suc 2 j in
+          rw half (ap (λ (x : ℕ). size F m / q * x + 2 ^ j) twice ∙ omega arith))
+
+      some : m ≢ 0 → 2 * spacing F m ≤ q → (j : ℕ) → q ≡ 2 ^ j → Bit n place m
+      some z l zero e = absurd (omega (arith, pow-pos (spacingExp F m)))
+      some z l (suc j) e =
+          record { within = inr (j, size F m / q, odd z l j e, omega (arith, half-moved n place m h f, e, pow-suc 2 j)) }
+
+      either : m ≢ 0 → 2 * spacing F m ≤ q → (q ≡ 0) ⊎ ((j : ℕ) × (q ≡ 2 ^ j)) → Bit n place m
+      either z l (inl o) = absurd (omega (arith, pow-pos (spacingExp F m)))
+      either z l (inr (j, e)) = some z l j e
+
+      by : m ≢ 0 → Dec (q < 2 * spacing F m) → Bit n place m
+      by z (yes l) = none (digits-some n place m m z f (small n m l))
+      by z (no l) = either z (omega arith) (step n m .power)
+
+      go : Dec (m ≡ 0) → Bit n place m
+      go (yes z) = none (digits-zero n place m z)
+      go (no z) = by z (decLt q (2 * spacing F m))
+
+  lowest-bit : (n mark place w : ℕ) → 1 ≤ n → LowestBit (moved F X (digits n) mark place w) (size F (magnitude F X (trimmed F X (digits n) mark place w)))
+  unfolding moved
+  lowest-bit n mark place w h =
+      trimmed-has F X (digits n) h place w mark (λ v. LowestBit (distance (position F X w) (position F X v)) (size F (magnitude F X v)))
+      (λ _. record { within = inl (distance-self (position F X w)) })
+      (λ e f s.
+      rw (position-distance F X w (result F X (digits n) place w) f (result-below F X (digits n) h place w f) (result-sign F X (digits n) h place w f), result-magnitude F X (digits n) h place w f)
+      (bit n place (magnitude F X w) h f))
+
   pub digit-bounds : DigitBounds F X
   digit-bounds =
       record {
@@ -228,6 +314,11 @@ module _ (F X : ℕ) where
         step-largest = λ n m. step n m .largest;
         step-below = λ n m. step n m .under;
         half-digit = λ n mark place w h. le-trans (mul-le-mul-right (10 ^ (B + n)) (half-step n mark place w h)) (step n (magnitude F X w) .under);
+        decade-left = decade-left;
+        half-digit-left = λ n mark place w h.
+            le-trans (le-trans (mul-le-mul-right (10 ^ (B + n)) (half-step n mark place w h)) (step n (magnitude F X w) .under))
+            (mul-le-mul-right (2 ^ B) (pow-le-pow-right {n = 10} (omega arith) {i = decade F X (magnitude F X w)} (omega (arith, decade-left n mark place w h))));
+        lowest-bit = lowest-bit;
         exponent-stays = λ n mark place w h.
             left-has F X (digits n) h place w mark (λ v. exponentField F v ≡ exponentField F (magnitude F X w)) refl (λ f. field-kept n place (magnitude F X w) h f);
       }

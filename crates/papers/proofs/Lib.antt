@@ -9,6 +9,7 @@ pub mod DigitRounding
 pub mod Repetition
 pub mod Halfshaving
 pub mod LayerBounds
+pub mod Unpacked
 pub mod Listings
 pub mod Unbiased
 pub mod Cases

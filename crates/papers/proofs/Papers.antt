@@ -8,8 +8,9 @@ use Rattle.papers.proofs.Repetition.{repetition, rounders}
 use Rattle.papers.proofs.Halfshaving.{halfshaving}
 use Rattle.papers.proofs.Listings.{listings}
 use Rattle.papers.proofs.LayerBounds.{layer-bounds}
+use Rattle.papers.proofs.Unpacked.{unpacked}
 use Rattle.papers.proofs.Unbiased.{unbiased}
-use Rattle.papers.proofs.Cases.{attained, pi-tables, subnormal, printed, decimal-beyond, digits-again, halfshave-sharper, halfshave-groomed, listings-beyond, layer-top}
+use Rattle.papers.proofs.Cases.{attained, pi-tables, subnormal, printed, decimal-beyond, digits-again, digits-left, halfshave-sharper, halfshave-groomed, listings-beyond, layer-top}
 
 pub papers : Papers
 papers =
@@ -28,12 +29,14 @@ papers =
       unbiased = unbiased;
       keep-bits = keep-bits;
       layers = layer-bounds;
+      unpacked = unpacked;
       pi-tables = pi-tables;
       attained = attained;
       subnormal = subnormal;
       printed = printed;
       decimal-beyond = decimal-beyond;
       digits-again = digits-again;
+      digits-left = digits-left;
       halfshave-sharper = halfshave-sharper;
       halfshave-groomed = halfshave-groomed;
       listings-beyond = listings-beyond;

@@ -96,6 +96,12 @@ pub record DigitsAgain : Type 0 where
   -- 100 to one digit is 96, and 96 to one digit is 100
   pub two-cycle : (left (digits 1) 0x42C80000 ≡ 0x42C00000) × (left (digits 1) 0x42C00000 ≡ 0x42C80000)
 
+-- 002's equation 4 doesn't hold with the decade of what is left: 127 to one digit is 96, 31 away, and half of ten is 5.
+pub record DigitsLeft : Type 0 where
+  pub left-decade : (left (digits 1) 0x42FE0000 ≡ 0x42C00000) × (10 ^ decade 23 8 0x42C00000 * 2 ^ 149 < 2 * by (digits 1) 0 0x42FE0000 * 10 ^ (149 + 1))
+  -- the lowest one bit is attained: 3 to one digit is 3.5, so half a unit away
+  pub bit-attained : (left (digits 1) 0x40400000 ≡ 0x40600000) × (2 * by (digits 1) 0 0x40400000 ≡ 2 ^ 149)
+
 -- 001, section 4.1, doesn't hold of halfshave, which it doesn't name: 1 halfshaved with 7 keep bits changes again with 8.
 pub record HalfshaveSharper : Type 0 where
   pub one-sharper : (left (tail halfshave 7) 0x3F800000 ≡ 0x3F808000) × (left (tail halfshave 8) 0x3F808000 ≡ 0x3F80C000)

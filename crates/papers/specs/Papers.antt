@@ -7,8 +7,9 @@ use Rattle.papers.specs.Repetition.{Repetition, Rounder}
 use Rattle.papers.specs.Halfshaving.{Halfshaving}
 use Rattle.papers.specs.Listings.{Listings}
 use Rattle.papers.specs.LayerBounds.{LayerBounds}
+use Rattle.papers.specs.Unpacked.{Unpacked}
 use Rattle.papers.specs.Unbiased.{Unbiased}
-use Rattle.papers.specs.Cases.{Attained, PiTables, Subnormal, Printed, DecimalBeyond, DigitsAgain, HalfshaveSharper, HalfshaveGroomed, ListingsBeyond, LayerTop}
+use Rattle.papers.specs.Cases.{Attained, PiTables, Subnormal, Printed, DecimalBeyond, DigitsAgain, DigitsLeft, HalfshaveSharper, HalfshaveGroomed, ListingsBeyond, LayerTop}
 
 pub record Claims (F X : ℕ) : Type 0 where
   pub unit-bounds : UnitBounds F X
@@ -25,6 +26,7 @@ pub record Papers : Type 0 where
   pub unbiased : Unbiased
   pub keep-bits : KeepBits
   pub layers : LayerBounds
+  pub unpacked : Unpacked
   pub pi-tables : PiTables
   -- bounds that are attained, and claims that fail as printed
   pub attained : Attained
@@ -32,6 +34,7 @@ pub record Papers : Type 0 where
   pub printed : Printed
   pub decimal-beyond : DecimalBeyond
   pub digits-again : DigitsAgain
+  pub digits-left : DigitsLeft
   pub halfshave-sharper : HalfshaveSharper
   pub halfshave-groomed : HalfshaveGroomed
   pub listings-beyond : ListingsBeyond

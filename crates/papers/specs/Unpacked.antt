@@ -1,0 +1,46 @@
+-- Unpacking rounds once, R plus code times the step to the nearest double: how far that double lies from the exact meaning of the code, and where it is the exact meaning.
+use mathlib.Core.Path.{_≡_}
+use mathlib.Core.Logic.{_⊎_, _≢_}
+use mathlib.Core.Bool.{true, cond}
+use mathlib.Core.List.{List}
+use Prim.Native.Nat.{ℕ, _+_, _*_, _^_, _≤_, _<_}
+use lib.Dec.{leb}
+use lib.ListN.{length, getD}
+use Rattle.meaning.specs.Readings.{size, spacing, spacingExp, sign, magnitude, finite, origin, position, distance}
+use Rattle.meaning.specs.Layers.{Layer, code, codeMeaning, nearestDouble}
+use Rattle.papers.specs.LayerBounds.{layer, AllFinite}
+
+-- what a code of a layer unpacks to, and the size of its exact meaning, in least spacings of doubles: one of singles is 2 ^ 925 of them
+abbrev pub double : Layer → ℕ → ℕ
+double l c = nearestDouble (codeMeaning 23 8 l c)
+
+abbrev pub meaningSize : Layer → ℕ → ℕ
+meaningSize l c = distance (codeMeaning 23 8 l c) (origin 23 8) * 2 ^ 925
+
+-- The reference is zero, or the step is at most 2 ^ 37 of its spacings and a spacing is at most 2 ^ 29 steps: then 53 bits hold R and every code times the step, and their sum.
+abbrev pub HeldIn53 : Layer → Type 0
+HeldIn53 l =
+    (magnitude 23 8 (l .reference) ≡ 0)
+    ⊎ ((l .exponent ≤ spacingExp 23 (magnitude 23 8 (l .reference)) + 37) × (spacingExp 23 (magnitude 23 8 (l .reference)) ≤ l .exponent + 29))
+
+pub record Unpacked : Type 0 where
+  -- the double has the sign of the meaning, and +0 is its zero
+  pub same-sign : (l : Layer) (c : ℕ) → finite 23 8 (l .reference) ≡ true → l .exponent ≤ 263 → c < 65535
+      → sign 52 11 (double l c) ≡ cond (leb (origin 23 8) (codeMeaning 23 8 l c)) 0 1
+  -- it lies within half of its own spacing
+  pub half-spacing : (l : Layer) (c : ℕ) → finite 23 8 (l .reference) ≡ true → l .exponent ≤ 263 → c < 65535
+      → 2 * distance (size 52 (magnitude 52 11 (double l c))) (meaningSize l c) ≤ spacing 52 (magnitude 52 11 (double l c))
+  -- code 0 is the reference, whatever the step
+  pub reference-exact : (l : Layer) → finite 23 8 (l .reference) ≡ true → l .exponent ≤ 263 → size 52 (magnitude 52 11 (double l 0)) ≡ meaningSize l 0
+  -- and every code is exact where 53 bits hold all
+  pub exact : (l : Layer) (c : ℕ) → finite 23 8 (l .reference) ≡ true → l .exponent ≤ 263 → c < 65535 → HeldIn53 l
+      → size 52 (magnitude 52 11 (double l c)) ≡ meaningSize l c
+  -- A code within half a step of a single above R has the second half of `HeldIn53` without being asked. Every code but 0 that packing makes is such a code.
+  pub packed-held : (l : Layer) (c w : ℕ) → finite 23 8 (l .reference) ≡ true → finite 23 8 w ≡ true → c < 65535 → position 23 8 (l .reference) < position 23 8 w
+      → 2 * distance (position 23 8 w) (codeMeaning 23 8 l c) ≤ 2 ^ l .exponent → spacingExp 23 (magnitude 23 8 (l .reference)) ≤ l .exponent + 16
+  -- So what packing made of a reading unpacks exactly unless R is not zero and has a spacing below 2 ^ -37 steps, that is, unless R is tiny beside the step.
+  pub packed-exact : (mark : ℕ) (ws : List ℕ) → AllFinite mark ws
+      → (magnitude 23 8 (layer mark ws .reference) ≡ 0) ⊎ (layer mark ws .exponent ≤ spacingExp 23 (magnitude 23 8 (layer mark ws .reference)) + 37)
+      → (i : ℕ) → i < length ws → getD ws i 0 ≢ mark
+      → let c = code 23 8 16 mark (layer mark ws) (getD ws i 0) in
+      size 52 (magnitude 52 11 (double (layer mark ws) c)) ≡ meaningSize (layer mark ws) c
