@@ -1,14 +1,18 @@
--- 001's and 003's bounds for one reading.
-use mathlib.Core.Path.{_≡_}
+-- 001's and 003's bounds for one reading; and with the unit at what is left, which is no smaller: no method takes a reading below the binade in which it lies.
+use mathlib.Core.Path.{_≡_, sym}
 use Prim.Native.Nat.{ℕ, _+_, _-_, _*_, _^_, _≤_, _<_, zero-le}
-use native.Mathlib.Nat.{div-add-mod', div-mul-le-self, mod-lt, le-refl, sub-le, mul-le-mul-right}
-use native.Mathlib.Decide.{ℕ-discrete}
+use native.Mathlib.Nat.{div-add-mod', div-mul-le-self, mod-lt, le-refl, le-of-eq, le-trans, sub-le, mul-le-mul-left, mul-le-mul-right}
+use native.Mathlib.Decide.{decLt, ℕ-discrete}
 use native.Mathlib.Omega.{arith}
-use lib.Pow.{pow-pos}
-use Rattle.meaning.specs.Readings.{size, spacing, magnitude}
-use Rattle.meaning.specs.Methods.{tail, round, absolute, shave, set, halfshave, unit, tailChanged, newMagnitude}
-use Rattle.meaning.proofs.Sizes.{size-le}
-use Rattle.papers.specs.Bounds.{UnitBounds}
+use lib.Pow.{pow-pos, pow-mono}
+use Rattle.meaning.specs.Readings.{size, spacing, spacingExp, magnitude, infinity}
+use Rattle.meaning.specs.Methods.{Method, TailMethod, tail, round, absolute, digits, shave, set, halfshave, unit, shaved, rounded, tailChanged, newMagnitude}
+use Rattle.meaning.proofs.Sizes.{size-le, spacing-mono}
+use Rattle.meaning.proofs.Nearest.{nearest-floor}
+use Rattle.meaning.proofs.Tails.{same-spacing, tail-changed-agree}
+use Rattle.meaning.proofs.Rounding.{round-within, round-clipped}
+use Rattle.papers.specs.Moved.{unitOf, unitLeft}
+use Rattle.papers.specs.Bounds.{UnitBounds, LeftBounds}
 use Rattle.papers.proofs.Apart.{left-has, moved-has}
 use Rattle.papers.proofs.TailValues.{shave-is, set-some}
 use Rattle.papers.proofs.Steps.{tail-step, halfshave-step, round-half, round-whole, absolute-half, absolute-whole}
@@ -54,4 +58,48 @@ module _ (F X : ℕ) where
         set-up = λ k mark place w.
             left-has F X (tail set k) tt place w mark (λ m. size F (magnitude F X w) ≤ size F m) (le-refl (size F (magnitude F X w)))
             (λ f. size-le F (set-more place (F - k) (magnitude F X w)));
+      }
+
+  -- ---- by what is left
+
+  -- methods 0 to 3 stay in the binade
+  tail-binade : (c : TailMethod) (k place m : ℕ) → spacingExp F m ≡ spacingExp F (tailChanged c place (F - k) m)
+  tail-binade c k place m = same-spacing F m (tailChanged c place (F - k) m) (F - k) (sub-le F k) (sym (tail-changed-agree c place (F - k) m))
+
+  -- round leaves S or more
+  round-least : (k place m : ℕ) → tailChanged shave place (F - k) m ≤ newMagnitude F X (round k) place m
+  unfolding tailChanged shaved rounded
+  round-least k place m = go (decLt (rounded (F - k) m) (infinity F X))
+    where
+      go : Dec (rounded (F - k) m < infinity F X) → shaved (F - k) m ≤ newMagnitude F X (round k) place m
+      go (yes f) = rw (round-within F X k place m f) (mul-le-mul-right (2 ^ (F - k)) (nearest-floor m (2 ^ (F - k)) (pow-pos (F - k)) .0))
+      go (no f) = rw (round-clipped F X k place m (omega arith)) (le-refl (shaved (F - k) m))
+
+  unit-grows : (x : Method) (mark place w : ℕ) → unitOf F X x w ≤ unitLeft F X x mark place w
+  unfolding unit spacing newMagnitude
+  unit-grows (tail c k) mark place w =
+      left-has F X (tail c k) tt place w mark (λ v. unit F (tail c k) (magnitude F X w) ≤ unit F (tail c k) v) (le-refl (unitOf F X (tail c k) w))
+      (λ f. mul-le-mul-left (2 ^ (F - k)) (pow-mono (le-of-eq (tail-binade c k place (magnitude F X w)))))
+  unit-grows (round k) mark place w =
+      left-has F X (round k) tt place w mark (λ v. unit F (round k) (magnitude F X w) ≤ unit F (round k) v) (le-refl (unitOf F X (round k) w))
+      (λ f. mul-le-mul-left (2 ^ (F - k)) (pow-mono (le-trans (le-of-eq (tail-binade shave k place (magnitude F X w))) (spacing-mono F (round-least k place (magnitude F X w))))))
+  unit-grows (absolute q) mark place w = le-refl (2 ^ q)
+  unit-grows (digits n) mark place w = le-refl 0
+
+  some-spacing : (m : ℕ) → 0 < spacing F m
+  unfolding spacing
+  some-spacing m = pow-pos (spacingExp F m)
+
+  pub left-bounds : LeftBounds F X
+  left-bounds =
+      record {
+        unit-grows = unit-grows;
+        tail-left = λ c k mark place w.
+            omega (arith, unit-bounds .tail-moves c k mark place w, unit-grows (tail c k) mark place w, some-spacing (magnitude F X w));
+        halfshave-left = λ k mark place w. omega (arith, unit-bounds .halfshave-moves k mark place w, unit-grows (tail halfshave k) mark place w);
+        round-left = λ k mark place w c. omega (arith, unit-bounds .round-moves k mark place w c, unit-grows (round k) mark place w);
+        round-always-left = λ k mark place w.
+            omega (arith, unit-bounds .round-always k mark place w, unit-grows (round k) mark place w, some-spacing (magnitude F X w));
+        absolute-left = λ q mark place w c. omega (arith, unit-bounds .absolute-moves q mark place w c, unit-grows (absolute q) mark place w);
+        absolute-always-left = λ q mark place w. omega (arith, unit-bounds .absolute-always q mark place w, unit-grows (absolute q) mark place w);
       }

@@ -4,7 +4,7 @@ use lib.Dec.{lit<}
 use Rattle.meaning.proofs.CasesRows.{afterAll}
 use Rattle.papers.specs.Moved.{moved}
 use Rattle.papers.specs.Listings.{masked, maskedHalf, addedMasked}
-use Rattle.papers.specs.Cases.{Attained, PiTables, Subnormal, Printed, DecimalBeyond, DigitsAgain, DigitsLeft, HalfshaveSharper, HalfshaveGroomed, ListingsBeyond, LayerTop}
+use Rattle.papers.specs.Cases.{Attained, LeftCases, PiTables, Subnormal, Printed, DecimalBeyond, DigitsAgain, DigitsLeft, HalfshaveSharper, HalfshaveGroomed, ListingsBeyond, LayerTop}
 
 pub attained : Attained
 unfolding afterAll moved
@@ -22,6 +22,10 @@ attained =
       digits-half = refl;
       pack-half = refl;
     }
+
+pub left-cases : LeftCases
+unfolding afterAll moved
+left-cases = record { round-grows = (refl, refl); shave-more = lit< tt; clipped-more = lit< tt }
 
 pub pi-tables : PiTables
 unfolding afterAll

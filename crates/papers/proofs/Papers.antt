@@ -1,6 +1,6 @@
 -- The whole.
 use Rattle.papers.specs.Papers.{Papers}
-use Rattle.papers.proofs.Bounds.{unit-bounds}
+use Rattle.papers.proofs.Bounds.{unit-bounds, left-bounds}
 use Rattle.papers.proofs.Relative.{relative-bounds}
 use Rattle.papers.proofs.Decimal.{keep-bits, decimal-bounds}
 use Rattle.papers.proofs.DigitRounding.{digit-bounds}
@@ -10,7 +10,7 @@ use Rattle.papers.proofs.Listings.{listings}
 use Rattle.papers.proofs.LayerBounds.{layer-bounds}
 use Rattle.papers.proofs.Unpacked.{unpacked}
 use Rattle.papers.proofs.Unbiased.{unbiased}
-use Rattle.papers.proofs.Cases.{attained, pi-tables, subnormal, printed, decimal-beyond, digits-again, digits-left, halfshave-sharper, halfshave-groomed, listings-beyond, layer-top}
+use Rattle.papers.proofs.Cases.{attained, left-cases, pi-tables, subnormal, printed, decimal-beyond, digits-again, digits-left, halfshave-sharper, halfshave-groomed, listings-beyond, layer-top}
 
 pub papers : Papers
 papers =
@@ -18,6 +18,7 @@ papers =
       every-width = λ F X.
           record {
             unit-bounds = unit-bounds F X;
+            left-bounds = left-bounds F X;
             relative-bounds = relative-bounds F X;
             decimal-bounds = decimal-bounds F X;
             digit-bounds = digit-bounds F X;
@@ -32,6 +33,7 @@ papers =
       unpacked = unpacked;
       pi-tables = pi-tables;
       attained = attained;
+      left-cases = left-cases;
       subnormal = subnormal;
       printed = printed;
       decimal-beyond = decimal-beyond;

@@ -3,8 +3,8 @@ use mathlib.Core.Path.{_≡_}
 use mathlib.Core.Bool.{false}
 use Prim.Native.Nat.{ℕ, _+_, _*_, _^_, _≤_, _<_}
 use Rattle.meaning.specs.Readings.{magnitude}
-use Rattle.meaning.specs.Methods.{TailMethod, tail, shave, set, halfshave, round, absolute, clips, trimmed}
-use Rattle.papers.specs.Moved.{moved, sizeOf, spacingOf, unitOf, Normal}
+use Rattle.meaning.specs.Methods.{Method, TailMethod, tail, shave, set, halfshave, round, absolute, clips, trimmed}
+use Rattle.papers.specs.Moved.{moved, sizeOf, spacingOf, unitOf, unitLeft, Normal}
 
 pub record UnitBounds (F X : ℕ) : Type 0 where
   -- 003, section 3: at most a full quantum for shave, set and groom. Never the whole of it: at most a unit less one spacing.
@@ -20,6 +20,20 @@ pub record UnitBounds (F X : ℕ) : Type 0 where
   -- 001, section 2.3, and 003, section 3: shave goes towards zero, and set away from it
   pub shave-down : (k mark place w : ℕ) → sizeOf F X (trimmed F X (tail shave k) mark place w) ≤ sizeOf F X w
   pub set-up : (k mark place w : ℕ) → sizeOf F X w ≤ sizeOf F X (trimmed F X (tail set k) mark place w)
+
+-- The same by what is left, since the reading is wiped. A call never lowers a method's unit, so that the bounds hold with the unit at the figure left; whether a call
+-- clips is still asked of the reading.
+pub record LeftBounds (F X : ℕ) : Type 0 where
+  -- of digits too, which has none: its unit is 0 everywhere
+  pub unit-grows : (x : Method) (mark place w : ℕ) → unitOf F X x w ≤ unitLeft F X x mark place w
+  pub tail-left : (c : TailMethod) (k mark place w : ℕ) → moved F X (tail c k) mark place w < unitLeft F X (tail c k) mark place w
+  pub halfshave-left : (k mark place w : ℕ) → 2 * moved F X (tail halfshave k) mark place w ≤ unitLeft F X (tail halfshave k) mark place w
+  -- half a unit unless it clips; clipped or not, less than a unit
+  pub round-left : (k mark place w : ℕ) → clips F X (round k) (magnitude F X w) ≡ false → 2 * moved F X (round k) mark place w ≤ unitLeft F X (round k) mark place w
+  pub round-always-left : (k mark place w : ℕ) → moved F X (round k) mark place w < unitLeft F X (round k) mark place w
+  pub absolute-left : (q mark place w : ℕ) → clips F X (absolute q) (magnitude F X w) ≡ false
+      → 2 * moved F X (absolute q) mark place w ≤ unitLeft F X (absolute q) mark place w
+  pub absolute-always-left : (q mark place w : ℕ) → moved F X (absolute q) mark place w < unitLeft F X (absolute q) mark place w
 
 -- 003, Table 1: the largest error as a part of the reading, with k keep bits (one less than the table's mantissa bits): 2 ^ -k for shave, set and groom, and half of
 -- that for round and halfshave. True of normal readings; halfshave alone attains it. The table's percentages are roundings of these powers.

@@ -52,6 +52,14 @@ pub record Attained : Type 0 where
   pub pack-half :
       2 * distance (position 23 8 0x0000FFFF) (meaningAt 0x7CF00000 (0x00000000 ∷ 0x0000FFFF ∷ []) 1) ≡ 2 ^ layer 0x7CF00000 (0x00000000 ∷ 0x0000FFFF ∷ []) .exponent
 
+-- With the unit at the figure left, with 7 keep bits
+pub record LeftCases : Type 0 where
+  -- it may be larger than at the reading: 3FFFFFFF, just below 2, is rounded to 2
+  pub round-grows : (left (round 7) 0x3FFFFFFF ≡ 0x40000000) × (unitAt (round 7) 0x40000000 ≡ 2 * unitAt (round 7) 0x3FFFFFFF)
+  -- half of it fails for a tail of ones shaved, and for the largest single, where round clips (P6)
+  pub shave-more : unitAt (tail shave 7) (left (tail shave 7) 0x3F80FFFF) < 2 * by (tail shave 7) 0 0x3F80FFFF
+  pub clipped-more : unitAt (round 7) (left (round 7) 0x7F7FFFFF) < 2 * by (round 7) 0 0x7F7FFFFF
+
 -- The papers' tables of pi, in the rows that a method and setting can give, by their bits: some printed decimals are not the value of their bits.
 pub record PiTables : Type 0 where
   -- 001, Table 1: Decimal Rounding to 2 places (the scale 128), Bit Shaving and Bit Setting to 3 digits

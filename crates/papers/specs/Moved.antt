@@ -18,6 +18,10 @@ module _ (F X : ℕ) where
   abbrev pub unitOf : Method → ℕ → ℕ
   unitOf x w = unit F x (magnitude F X w)
 
+  -- a method's unit at what the call leaves of it
+  abbrev pub unitLeft : Method → ℕ → ℕ → ℕ → ℕ
+  unitLeft x mark place w = unitOf x (trimmed F X x mark place w)
+
   -- its exponent field is not 0, so that it has the implicit bit
   abbrev pub Normal : ℕ → Type 0
   Normal w = 2 ^ F ≤ magnitude F X w

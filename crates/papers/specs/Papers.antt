@@ -1,6 +1,6 @@
 -- All claims, in the papers' order: for every width, and so for singles and doubles; then the layers of singles and the cases.
 use Prim.Native.Nat.{ℕ}
-use Rattle.papers.specs.Bounds.{UnitBounds, RelativeBounds}
+use Rattle.papers.specs.Bounds.{UnitBounds, LeftBounds, RelativeBounds}
 use Rattle.papers.specs.Decimal.{KeepBits, DecimalBounds}
 use Rattle.papers.specs.DigitRounding.{DigitBounds}
 use Rattle.papers.specs.Repetition.{Repetition, Rounder}
@@ -9,10 +9,11 @@ use Rattle.papers.specs.Listings.{Listings}
 use Rattle.papers.specs.LayerBounds.{LayerBounds}
 use Rattle.papers.specs.Unpacked.{Unpacked}
 use Rattle.papers.specs.Unbiased.{Unbiased}
-use Rattle.papers.specs.Cases.{Attained, PiTables, Subnormal, Printed, DecimalBeyond, DigitsAgain, DigitsLeft, HalfshaveSharper, HalfshaveGroomed, ListingsBeyond, LayerTop}
+use Rattle.papers.specs.Cases.{Attained, LeftCases, PiTables, Subnormal, Printed, DecimalBeyond, DigitsAgain, DigitsLeft, HalfshaveSharper, HalfshaveGroomed, ListingsBeyond, LayerTop}
 
 pub record Claims (F X : ℕ) : Type 0 where
   pub unit-bounds : UnitBounds F X
+  pub left-bounds : LeftBounds F X
   pub relative-bounds : RelativeBounds F X
   pub decimal-bounds : DecimalBounds F X
   pub digit-bounds : DigitBounds F X
@@ -30,6 +31,7 @@ pub record Papers : Type 0 where
   pub pi-tables : PiTables
   -- bounds that are attained, and claims that fail as printed
   pub attained : Attained
+  pub left-cases : LeftCases
   pub subnormal : Subnormal
   pub printed : Printed
   pub decimal-beyond : DecimalBeyond
