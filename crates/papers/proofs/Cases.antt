@@ -1,10 +1,11 @@
 -- The cases, by computing them.
 use mathlib.Core.Path.{refl}
+use native.Mathlib.Omega.{arith}
 use lib.Dec.{lit<}
 use Rattle.meaning.proofs.CasesRows.{afterAll}
 use Rattle.papers.specs.Moved.{moved}
 use Rattle.papers.specs.Listings.{masked, maskedHalf, addedMasked}
-use Rattle.papers.specs.Cases.{Attained, LeftCases, PiTables, Subnormal, Printed, DecimalBeyond, DigitsAgain, DigitsLeft, HalfshaveSharper, HalfshaveGroomed, ListingsBeyond, LayerTop}
+use Rattle.papers.specs.Cases.{Attained, LeftCases, PiTables, Subnormal, Printed, DecimalBeyond, DigitsAgain, DigitsLeft, HalfshaveSharper, HalfshaveGroomed, ListingsBeyond, LayerTop, DoubleBeyond}
 
 pub attained : Attained
 unfolding afterAll moved
@@ -66,3 +67,12 @@ listings-beyond = record { A2-zero = refl; A4-largest = refl; A4-nan = refl }
 pub layer-top : LayerTop
 unfolding afterAll
 layer-top = record { top-beyond = refl }
+
+pub double-beyond : DoubleBeyond
+unfolding afterAll
+double-beyond =
+    record {
+      still-coded =
+          record { missing-code = (λ e. absurd (omega (arith, e)), λ e. absurd (omega (arith, e))); near = λ p. lit< tt; near-left = λ p. lit< tt };
+      double-beyond = refl;
+    }

@@ -10,7 +10,7 @@ use Rattle.papers.proofs.Listings.{listings}
 use Rattle.papers.proofs.LayerBounds.{layer-bounds}
 use Rattle.papers.proofs.Unpacked.{unpacked}
 use Rattle.papers.proofs.Unbiased.{unbiased}
-use Rattle.papers.proofs.Cases.{attained, left-cases, pi-tables, subnormal, printed, decimal-beyond, digits-again, digits-left, halfshave-sharper, halfshave-groomed, listings-beyond, layer-top}
+use Rattle.papers.proofs.Cases.{attained, left-cases, pi-tables, subnormal, printed, decimal-beyond, digits-again, digits-left, halfshave-sharper, halfshave-groomed, listings-beyond, layer-top, double-beyond}
 
 pub papers : Papers
 papers =
@@ -43,4 +43,5 @@ papers =
       halfshave-groomed = halfshave-groomed;
       listings-beyond = listings-beyond;
       layer-top = layer-top;
+      double-beyond = double-beyond;
     }

@@ -1,9 +1,10 @@
--- A size's nearest magnitude is within half of its own spacing, and is exact for a size of at most F + 1 bits; then the bits of a code's meaning.
+-- A size's nearest magnitude is within half of its own spacing, and is exact for a size of at most F + 1 bits; then the bits of a code's meaning,
+-- and its distance from a single.
 use mathlib.Core.Path.{_≡_, refl, sym, ap, ap₂, _∙_}
 use mathlib.Core.Logic.{_⊎_, inl, inr, _≢_}
 use mathlib.Core.Bool.{Bool, true, false, cond}
 use mathlib.Core.List.{List, [], _∷_}
-use Prim.Native.Nat.{ℕ, zero, suc, _+_, _-_, _*_, _^_, _≤_, _<_, suc-le-suc}
+use Prim.Native.Nat.{ℕ, zero, suc, _+_, _-_, _*_, _/_, _^_, _≤_, _<_, suc-le-suc}
 use native.Mathlib.Nat.{le-refl, le-trans, le-of-lt, lt-of-lt-of-le, lt-of-le-of-lt, mul-le-mul, mul-le-mul-right, mul-le-mul-left, mul-lt-mul-of-pos-right, mul-assoc, mul-comm, pow-suc, not-le-of-lt, zero-mul, mul-sub}
 use native.Mathlib.Decide.{decLt, decLe, ℕ-discrete}
 use native.Mathlib.Omega.{arith}
@@ -12,15 +13,17 @@ use lib.Pow.{pow-pos, pow-add, pow-mono, shl-lt}
 use lib.Dec.{leb, eqb}
 use lib.ListN.{length, getD}
 use Rattle.meaning.specs.Readings.{size, spacing, spacingExp, exponentField, sign, magnitude, pattern, infinity, finite, magnitudeOf, leastExp, origin, position, distance, missing}
-use Rattle.meaning.specs.Methods.{nearest}
-use Rattle.meaning.specs.Layers.{Layer, Summary, Nothing, Flat, Spread, smallest, holds, lastCode, plusZero, smaller, larger, widened, summary, span, layerOf, code, codeMeaning, nearestMagnitude, nearestDouble}
+use Rattle.meaning.specs.Methods.{Method, nearest}
+use Rattle.meaning.specs.Layers.{Layer, Summary, Nothing, Flat, Spread, smallest, missingCode, holds, lastCode, plusZero, smaller, larger, widened, summary, span, layerOf, code, codeMeaning, nearestMagnitude, nearestDouble, unpackedCode}
+use Rattle.meaning.specs.Calls.{largestUnit}
+use Rattle.meaning.specs.Claim.{Coded}
 use Rattle.meaning.proofs.Powers.{pow-split}
 use Rattle.meaning.proofs.Nearest.{nearest-between, nearest-half, nearest-multiple}
 use Rattle.meaning.proofs.Sizes.{Form, form, size-at, size-form, size-le, size-small, spacing-at}
 use Rattle.meaning.proofs.Patterns.{magnitude-pattern, sign-pattern, magnitudeOf-size, magnitudeOf-floor, finite-below, size-below, position-plus, position-minus}
 use Rattle.meaning.proofs.Packing.{code-present, layer-least, layer-codes, singles-held}
 use Rattle.papers.specs.LayerBounds.{layer, AllFinite}
-use Rattle.papers.specs.Unpacked.{Unpacked, HeldIn53, double, meaningSize}
+use Rattle.papers.specs.Unpacked.{Unpacked, HeldIn53, double, meaningSize, apart}
 
 -- ---- the magnitude nearest to a size n, not near the infinities
 
@@ -156,6 +159,28 @@ distance-le : (x y : ℕ) → distance x y ≤ x + y
 unfolding distance
 distance-le x y = omega arith
 
+shifted : (x y o : ℕ) → distance (x + o) (y + o) ≡ distance x y
+unfolding distance
+shifted x y o = omega arith
+
+further : (x y z : ℕ) → distance x z ≤ distance x y + distance y z
+unfolding distance
+further x y z = omega arith
+
+-- from x to D by way of p, in units of which g make one of x and p
+through : (x p D O g u s : ℕ) → 0 < g → 2 * distance x p < u → 2 * distance (p * g + O) D ≤ s → 2 * distance (x * g + O) D < u * g + s
+through x p D O g u s h d e =
+    omega (arith, further (x * g + O) (p * g + O) D, shifted (x * g) (p * g) O, scaled x p g, mul-lt-mul-of-pos-right d h, e)
+
+-- a place p counted from b and a size S counted from O, on one side of zero
+same-up : (p b O S : ℕ) → b ≤ p → distance (p + O) (O + S + b) ≡ distance S (distance p b)
+unfolding distance
+same-up p b O S h = omega arith
+
+same-down : (p b O S : ℕ) → p ≤ b → S ≤ O → distance (p + O) (O - S + b) ≡ distance S (distance p b)
+unfolding distance
+same-down p b O S h s = rw (← apart-down p b h) (omega arith)
+
 -- a number of at most 53 bits, shifted
 record Few (n : ℕ) : Type 0 where
   digits : ℕ
@@ -255,6 +280,39 @@ module _ (l : Layer) (k : ℕ) (f : finite 23 8 (l .reference) ≡ true) (e : l 
       ap (size 52) double-magnitude
       ∙ near-exact 52 11 (n * 2 ^ 925) room (b .digits) (b .shift + 925)
       (ap (λ (x : ℕ). x * 2 ^ 925) (b .is) ∙ mul-assoc (b .digits) (2 ^ b .shift) (2 ^ 925) ∙ ap (λ (x : ℕ). b .digits * x) (sym (pow-add 2 (b .shift) 925))) (b .few)
+
+  -- the same of signed sizes: the meaning's and zero, in least spacings of doubles
+  abbrev P : ℕ
+  P = codeMeaning 23 8 l k * 2 ^ 925
+
+  abbrev Z : ℕ
+  Z = origin 23 8 * 2 ^ 925
+
+  abbrev S : ℕ
+  S = size 52 (magnitude 52 11 (double l k))
+
+  S-below : S ≤ origin 52 11
+  S-below = le-of-lt (rw double-magnitude (size-below 52 11 (v-finite 52 11 (n * 2 ^ 925) room)))
+
+  within-signed : 2 * distance (P + origin 52 11) (position 52 11 (double l k) + Z) ≤ spacing 52 (magnitude 52 11 (double l k))
+  within-signed = go (decLe (origin 23 8) (codeMeaning 23 8 l k))
+    where
+      size-apart : distance P Z ≡ meaningSize l k
+      size-apart = scaled (codeMeaning 23 8 l k) (origin 23 8) (2 ^ 925)
+
+      go : Dec (origin 23 8 ≤ codeMeaning 23 8 l k) → 2 * distance (P + origin 52 11) (position 52 11 (double l k) + Z) ≤ spacing 52 (magnitude 52 11 (double l k))
+      go (yes o) =
+          let z : sign 52 11 (double l k) ≡ 0 = rw (le-leb (origin 23 8) (codeMeaning 23 8 l k) o) at double-sign in
+          rw (position-plus 52 11 (double l k) z, same-up P Z (origin 52 11) S (mul-le-mul-right (2 ^ 925) o), size-apart) within
+      go (no o) =
+          let z : sign 52 11 (double l k) ≡ 1 = rw (lt-leb (origin 23 8) (codeMeaning 23 8 l k) (omega arith)) at double-sign in
+          let m : sign 52 11 (double l k) ≢ 0 = λ y. absurd (omega (arith, y, z)) in
+          let below : P ≤ Z = mul-le-mul-right {m = codeMeaning 23 8 l k} {n = origin 23 8} (2 ^ 925) (omega arith) in
+          rw (position-minus 52 11 (double l k) m, same-down P Z (origin 52 11) S below S-below, size-apart) within
+
+  -- a single that lies less than u halves from the meaning
+  sent : (w u s : ℕ) → 2 * distance (position 23 8 w) (codeMeaning 23 8 l k) < u → spacing 52 (magnitude 52 11 (double l k)) ≤ s → 2 * apart w (double l k) < u * 2 ^ 925 + s
+  sent w u s d h = through (position 23 8 w) (codeMeaning 23 8 l k) (position 52 11 (double l k) + Z) (origin 52 11) (2 ^ 925) u s (pow-pos 925) d (le-trans within-signed h)
 
 -- ---- two singles lie at least half a spacing of the lower one apart
 
@@ -443,13 +501,27 @@ module _ (mark : ℕ) (ws : List ℕ) (fin : AllFinite mark ws) (i : ℕ) (h : i
       go (yes o) (inl y) = all-bits (inl y)
       go (yes o) (inr y) = all-bits (inr (omega arith, omega (arith, packed-held L C W R (fin i h p) coded o (layer-codes 23 8 16 263 mark ws held i h .half-step p))))
 
+is-unpacked : (mark : ℕ) (l : Layer) (c : ℕ) → c < 65535 → unpackedCode 16 mark l c ≡ double l c
+unfolding unpackedCode missingCode
+is-unpacked mark l c h = rw (ne-eqb c 65535 (λ e. absurd (omega arith))) refl
+
+-- a code that is not the missing one is of a reading that was present
+present-code : (mark : ℕ) (xs : List Method) (w : ℕ) (l : Layer) (c : ℕ) → c < 65535 → Coded mark xs w l c → w ≢ mark
+present-code mark xs w l c h k e = absurd (omega (arith, k .missing-code .1 e))
+
 pub unpacked : Unpacked
 unpacked =
     record {
+      is-unpacked = is-unpacked;
       same-sign = double-sign;
       half-spacing = within;
       reference-exact = reference-exact;
       exact = λ l k f e h z. by-bits l k f e h (held-bits l k f e h z);
       packed-held = packed-held;
       packed-exact = λ mark ws fin z i h p. made mark ws fin i h p z;
+      sent-near = λ mark xs w l c f e h k.
+          sent l c f e h w (2 * largestUnit 23 xs (magnitude 23 8 w) + 2 ^ l .exponent) _ (k .near (present-code mark xs w l c h k)) (omega arith);
+      sent-near-left = λ mark xs w l c f e h k.
+          sent l c f e h w (2 * largestUnit 23 xs (magnitudeOf 23 8 (distance (codeMeaning 23 8 l c) (origin 23 8) + 2 ^ l .exponent / 2)) + 2 ^ l .exponent) _
+          (k .near-left (present-code mark xs w l c h k)) (omega arith);
     }

@@ -5,9 +5,13 @@ use mathlib.Core.List.{[], _∷_, map}
 use Prim.Native.Nat.{ℕ, _+_, _-_, _*_, _^_, _<_}
 use Rattle.meaning.specs.Readings.{magnitude, position, distance}
 use Rattle.meaning.specs.Methods.{Method, tail, shave, set, groom, halfshave, round, absolute, digits, decade, digitStep, clips, trimmed}
+use Rattle.meaning.specs.Layers.{Layer}
+use Rattle.meaning.specs.Calls.{largestUnit}
+use Rattle.meaning.specs.Claim.{Coded}
 use Rattle.papers.specs.Moved.{moved, sizeOf, spacingOf, unitOf}
 use Rattle.papers.specs.Listings.{maskedHalf, addedMasked}
 use Rattle.papers.specs.LayerBounds.{layer, meaningAt}
+use Rattle.papers.specs.Unpacked.{double, apart}
 
 -- by how many least spacings a call moves a single at a place; the size, the spacing and the unit there
 abbrev by : Method → ℕ → ℕ → ℕ
@@ -132,3 +136,12 @@ pub record ListingsBeyond : Type 0 where
 -- The largest value of a layer may lie beyond it, by at most half a step: of 003's humidities, section 6, from 0 to 0.99999535, the larger is packed as 1.
 pub record LayerTop : Type 0 where
   pub top-beyond : meaningAt 0x7CF00000 (0x00000000 ∷ 0x3F7FFFB2 ∷ []) 1 ≡ position 23 8 0x3F800000
+
+-- `sent-near` in Unpacked.antt fails without the double's spacing. R is 00000001, E is -89 and the code 1: the double is 2 ^ -89, and R is lost. 13400001, one spacing above
+-- 2 ^ -89 and half a step, is such a reading for a list with the unit of one spacing.
+abbrev tiny : Layer
+tiny = record { reference = 0x00000001; exponent = 60 }
+
+pub record DoubleBeyond : Type 0 where
+  pub still-coded : Coded 0x7CF00000 (round 23 ∷ []) 0x13400001 tiny 1
+  pub double-beyond : 2 * apart 0x13400001 (double tiny 1) ≡ (2 * largestUnit 23 (round 23 ∷ []) (magnitude 23 8 0x13400001) + 2 ^ tiny .exponent) * 2 ^ 925

@@ -9,7 +9,7 @@ use Rattle.papers.specs.Listings.{Listings}
 use Rattle.papers.specs.LayerBounds.{LayerBounds}
 use Rattle.papers.specs.Unpacked.{Unpacked}
 use Rattle.papers.specs.Unbiased.{Unbiased}
-use Rattle.papers.specs.Cases.{Attained, LeftCases, PiTables, Subnormal, Printed, DecimalBeyond, DigitsAgain, DigitsLeft, HalfshaveSharper, HalfshaveGroomed, ListingsBeyond, LayerTop}
+use Rattle.papers.specs.Cases.{Attained, LeftCases, PiTables, Subnormal, Printed, DecimalBeyond, DigitsAgain, DigitsLeft, HalfshaveSharper, HalfshaveGroomed, ListingsBeyond, LayerTop, DoubleBeyond}
 
 pub record Claims (F X : ℕ) : Type 0 where
   pub unit-bounds : UnitBounds F X
@@ -41,3 +41,4 @@ pub record Papers : Type 0 where
   pub halfshave-groomed : HalfshaveGroomed
   pub listings-beyond : ListingsBeyond
   pub layer-top : LayerTop
+  pub double-beyond : DoubleBeyond

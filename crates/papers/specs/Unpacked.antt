@@ -1,13 +1,17 @@
--- Unpacking rounds once, R plus code times the step to the nearest double: how far that double lies from the exact meaning of the code, and where it is the exact meaning.
+-- Unpacking rounds once, R plus code times the step to the nearest double: how far that double lies from the exact meaning of the code, where it is the exact meaning, and
+-- how far it lies from the reading that was sent.
 use mathlib.Core.Path.{_≡_}
 use mathlib.Core.Logic.{_⊎_, _≢_}
 use mathlib.Core.Bool.{true, cond}
 use mathlib.Core.List.{List}
-use Prim.Native.Nat.{ℕ, _+_, _*_, _^_, _≤_, _<_}
+use Prim.Native.Nat.{ℕ, _+_, _*_, _/_, _^_, _≤_, _<_}
 use lib.Dec.{leb}
 use lib.ListN.{length, getD}
-use Rattle.meaning.specs.Readings.{size, spacing, spacingExp, sign, magnitude, finite, origin, position, distance}
-use Rattle.meaning.specs.Layers.{Layer, code, codeMeaning, nearestDouble}
+use Rattle.meaning.specs.Readings.{size, spacing, spacingExp, sign, magnitude, finite, magnitudeOf, origin, position, distance}
+use Rattle.meaning.specs.Methods.{Method}
+use Rattle.meaning.specs.Layers.{Layer, code, codeMeaning, nearestDouble, unpackedCode}
+use Rattle.meaning.specs.Calls.{largestUnit}
+use Rattle.meaning.specs.Claim.{Coded}
 use Rattle.papers.specs.LayerBounds.{layer, AllFinite}
 
 -- what a code of a layer unpacks to, and the size of its exact meaning, in least spacings of doubles: one of singles is 2 ^ 925 of them
@@ -17,6 +21,10 @@ double l c = nearestDouble (codeMeaning 23 8 l c)
 abbrev pub meaningSize : Layer → ℕ → ℕ
 meaningSize l c = distance (codeMeaning 23 8 l c) (origin 23 8) * 2 ^ 925
 
+-- how far a single w and a double v lie apart, in least spacings of doubles: their exact signed sizes, counted from one point below both
+abbrev pub apart : ℕ → ℕ → ℕ
+apart w v = distance (position 23 8 w * 2 ^ 925 + origin 52 11) (position 52 11 v + origin 23 8 * 2 ^ 925)
+
 -- The reference is zero, or the step is at most 2 ^ 37 of its spacings and a spacing is at most 2 ^ 29 steps: then 53 bits hold R and every code times the step, and their sum.
 abbrev pub HeldIn53 : Layer → Type 0
 HeldIn53 l =
@@ -24,6 +32,8 @@ HeldIn53 l =
     ⊎ ((l .exponent ≤ spacingExp 23 (magnitude 23 8 (l .reference)) + 37) × (spacingExp 23 (magnitude 23 8 (l .reference)) ≤ l .exponent + 29))
 
 pub record Unpacked : Type 0 where
+  -- `double` is what unpacking makes of a code, whatever the double mark
+  pub is-unpacked : (mark : ℕ) (l : Layer) (c : ℕ) → c < 65535 → unpackedCode 16 mark l c ≡ double l c
   -- the double has the sign of the meaning, and +0 is its zero
   pub same-sign : (l : Layer) (c : ℕ) → finite 23 8 (l .reference) ≡ true → l .exponent ≤ 263 → c < 65535
       → sign 52 11 (double l c) ≡ cond (leb (origin 23 8) (codeMeaning 23 8 l c)) 0 1
@@ -44,3 +54,12 @@ pub record Unpacked : Type 0 where
       → (i : ℕ) → i < length ws → getD ws i 0 ≢ mark
       → let c = code 23 8 16 mark (layer mark ws) (getD ws i 0) in
       size 52 (magnitude 52 11 (double (layer mark ws) c)) ≡ meaningSize (layer mark ws) c
+  -- Demand 3 for a reader of the doubles: w is the single that was sent, xs the accepted calls, c the code and l its layer (`Coded`, which demand 3 gives of every code). To the
+  -- unit and half a step comes half a spacing of the double: all three twice here, and in least spacings of doubles.
+  pub sent-near : (mark : ℕ) (xs : List Method) (w : ℕ) (l : Layer) (c : ℕ) → finite 23 8 (l .reference) ≡ true → l .exponent ≤ 263 → c < 65535 → Coded mark xs w l c
+      → 2 * apart w (double l c) < (2 * largestUnit 23 xs (magnitude 23 8 w) + 2 ^ l .exponent) * 2 ^ 925 + spacing 52 (magnitude 52 11 (double l c))
+  -- the same of the unit that needs nothing of w, at the largest size that the code and the step can stand for
+  pub sent-near-left : (mark : ℕ) (xs : List Method) (w : ℕ) (l : Layer) (c : ℕ) → finite 23 8 (l .reference) ≡ true → l .exponent ≤ 263 → c < 65535 → Coded mark xs w l c
+      → 2 * apart w (double l c)
+      < (2 * largestUnit 23 xs (magnitudeOf 23 8 (distance (codeMeaning 23 8 l c) (origin 23 8) + 2 ^ l .exponent / 2)) + 2 ^ l .exponent) * 2 ^ 925
+      + spacing 52 (magnitude 52 11 (double l c))
