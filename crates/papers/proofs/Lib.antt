@@ -13,4 +13,5 @@ pub mod Unpacked
 pub mod Listings
 pub mod Unbiased
 pub mod Cases
+pub mod CasesFar
 pub mod Papers

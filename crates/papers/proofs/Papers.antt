@@ -11,6 +11,7 @@ use Rattle.papers.proofs.LayerBounds.{layer-bounds}
 use Rattle.papers.proofs.Unpacked.{unpacked}
 use Rattle.papers.proofs.Unbiased.{unbiased}
 use Rattle.papers.proofs.Cases.{attained, left-cases, pi-tables, subnormal, printed, decimal-beyond, digits-again, digits-left, halfshave-sharper, halfshave-groomed, listings-beyond, layer-top, double-beyond}
+use Rattle.papers.proofs.CasesFar.{far-cases}
 
 pub papers : Papers
 papers =
@@ -44,4 +45,5 @@ papers =
       listings-beyond = listings-beyond;
       layer-top = layer-top;
       double-beyond = double-beyond;
+      far-cases = far-cases;
     }

@@ -10,6 +10,7 @@ use Rattle.papers.specs.LayerBounds.{LayerBounds}
 use Rattle.papers.specs.Unpacked.{Unpacked}
 use Rattle.papers.specs.Unbiased.{Unbiased}
 use Rattle.papers.specs.Cases.{Attained, LeftCases, PiTables, Subnormal, Printed, DecimalBeyond, DigitsAgain, DigitsLeft, HalfshaveSharper, HalfshaveGroomed, ListingsBeyond, LayerTop, DoubleBeyond}
+use Rattle.papers.specs.CasesFar.{FarCases}
 
 pub record Claims (F X : ℕ) : Type 0 where
   pub unit-bounds : UnitBounds F X
@@ -42,3 +43,5 @@ pub record Papers : Type 0 where
   pub listings-beyond : ListingsBeyond
   pub layer-top : LayerTop
   pub double-beyond : DoubleBeyond
+  -- bounds of lists at figures left, row by row
+  pub far-cases : FarCases
