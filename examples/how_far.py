@@ -5,8 +5,9 @@
     how_far.py FIGURE FILE.jobs            the jobs that trim-file kept
     how_far.py --packed R E CODE JOB ..    a code with its layer's reference R and step exponent E
 
-The figure is the one that is left after the jobs: a decimal number, or a pattern such as 438FC000. It is a single, and with --double a double. A job is a method and its
-setting; a mark may follow, as in a jobs file. All jobs that the figure went through have to be named, in any order. What is printed is proved: docs/PROMISES.md.
+The figure is the one that is left after the jobs: a decimal number, or a pattern such as 438FC000. It is a single, and with --double a double; of decimals the nearest one is
+taken. A job is a method and its setting; a mark may follow, as in a jobs file. All jobs that the figure went through have to be named, in any order. What is printed rests on
+what is proved: docs/PROMISES.md.
 """
 import re
 import struct
@@ -35,7 +36,7 @@ def settings_of(width, method):
 
 def job_of(width, text):
     """A method and its setting. A job that would be refused is a slip of whoever typed it: it can't have moved anything, and what was meant isn't known."""
-    parts = re.fullmatch(r"([a-z]+),(-?\d{1,4})(?:,([0-9A-F]{8}|[0-9A-F]{16}))?", text)
+    parts = re.fullmatch(r"([a-z]+),(-?\d{1,4})", text)
     if not parts:
         raise Refused(f"{text}: not a job such as round,7")
     method, setting = parts[1], int(parts[2])
@@ -105,10 +106,15 @@ def packed_distance(jobs, reference, exponent, code):
     return meaning, Fraction(2) ** unit_exponent(SINGLE, jobs, abs(meaning) + half) + half
 
 
+def is_pattern(width, text):
+    digits = struct.calcsize(width[4]) * 2
+    return bool(re.fullmatch(rf"0x[0-9A-Fa-f]{{{digits}}}|[0-9A-F]{{{digits}}}", text))
+
+
 def value_of(width, text):
     """A figure's exact value, by its pattern or by its decimals: then the nearest of the width."""
     digits = struct.calcsize(width[4]) * 2
-    if re.fullmatch(rf"0x[0-9A-Fa-f]{{{digits}}}|[0-9A-F]{{{digits}}}", text):
+    if is_pattern(width, text):
         if re.fullmatch(r"\d+", text):
             raise Refused(f"{text} may be a pattern or a number: write 0x{text} or {text}.0")
         value = struct.unpack(width[4], bytes.fromhex(text.removeprefix("0x")))[0]
@@ -142,12 +148,18 @@ def said(figure, far, itself):
     return f"less than {away} away: between {between[0]} and {between[1]}"
 
 
-def jobs_of(width, words):
-    """The jobs that are named, and those of jobs files."""
+def jobs_of(width, words, figure=None):
+    """The jobs that are named, and those of jobs files, where the mark follows each."""
     lines = []
     for word in words:
         lines += Path(word).read_text(encoding="ascii").splitlines() if word.endswith(".jobs") else [word]
-    return [job_of(width, line) for line in lines]
+    parts = [re.fullmatch(r"(.*?)(?:,([0-9A-F]{8}|[0-9A-F]{16}))?", line).groups() for line in lines]
+    marks = {mark for _, mark in parts if mark}
+    if len(marks) > 1:
+        raise Refused(f"the jobs have more than one mark, {' and '.join(sorted(marks))}: no distance is proved of such a list")
+    if figure in marks:
+        raise Refused("this figure is the mark: the reading is missing, and was missing when it was sent")
+    return [job_of(width, job) for job, _ in parts]
 
 
 def number_of(text, low, high, what):
@@ -170,7 +182,13 @@ def answer(words):
     width = DOUBLE if words[0] == "--double" else SINGLE
     figure, *jobs = words[width is DOUBLE:] or [""]
     value = value_of(width, figure)
-    return said(value, *distance(width, jobs_of(width, jobs), value))
+    pattern = struct.pack(width[4], value).hex().upper()
+    jobs = jobs_of(width, jobs, pattern)
+    in_full = is_pattern(width, figure) or Fraction(figure) == value
+    taken = "" if in_full else f"{figure} is taken for {decimals(value, ROUND_FLOOR)} ({pattern}), "
+    if taken and kind_of(jobs) == "digits":
+        raise Refused(f"{figure} is no figure in full, and digits needs its last bit: give the pattern, or all decimals")
+    return taken + said(value, *distance(width, jobs, value))
 
 
 if __name__ == "__main__":
@@ -178,5 +196,9 @@ if __name__ == "__main__":
         sys.exit(__doc__.strip())
     try:
         print(answer(sys.argv[1:]))
-    except (Refused, OSError, UnicodeDecodeError) as why:
+    except Refused as why:
         sys.exit(f"how_far: {why}")
+    except OSError as why:
+        sys.exit(f"how_far: {why.filename}: {why.strerror}")
+    except UnicodeDecodeError:
+        sys.exit("how_far: this is no list of jobs")
