@@ -9,7 +9,7 @@ use borrow.Author.Tests.{leb-true, ltb-true}
 use lib.Dec.{leb, ltb}
 use lib.Pow.{pow-pos, pow-add}
 use Rattle.meaning.specs.Readings.{size, magnitude, leastExp}
-use Rattle.meaning.specs.Methods.{TailMethod, tail, unit, decade}
+use Rattle.meaning.specs.Methods.{TailMethod, tail, round, unit, decade}
 use Rattle.meaning.proofs.Powers.{pow-split}
 use Rattle.meaning.proofs.Digits.{Decade, decade-rule}
 use Rattle.meaning.proofs.Accepted.{and-first, and-second}
@@ -56,28 +56,37 @@ module _ (F X : ℕ) where
   abbrev B : ℕ
   B = leastExp F X
 
-  kept : (c : TailMethod) (n k mark place w : ℕ) → Normal F X w → 2 * 10 ^ n ≤ 2 ^ k → HalfDigit F X n w (moved F X (tail c k) mark place w)
-  kept c n k mark place w h l = go (decade-rule F X (magnitude F X w) (omega (arith, pow-pos F)))
+  -- a distance of less than 2 ^ -k of the reading
+  kept : (n k w d : ℕ) → Normal F X w → 2 * 10 ^ n ≤ 2 ^ k → d * 2 ^ k < size F (magnitude F X w) → HalfDigit F X n w d
+  kept n k w d h l m = go (decade-rule F X (magnitude F X w) (omega (arith, pow-pos F)))
     where
-      d : ℕ
-      d = moved F X (tail c k) mark place w
-
       A : ℕ
       A = 10 ^ B
 
       go : Decade F X (magnitude F X w) (decade F X (magnitude F X w)) → HalfDigit F X n w d
       go r =
           let a : d * A * (2 * 10 ^ n) ≤ d * A * 2 ^ k = mul-le-mul-left (d * A) l in
-          let b : d * 2 ^ k * A < size F (magnitude F X w) * A = mul-lt-mul-of-pos-right (relative-bounds F X .tail-relative c k mark place w h) (one-le-pow B 10 (omega arith)) in
+          let b : d * 2 ^ k * A < size F (magnitude F X w) * A = mul-lt-mul-of-pos-right m (one-le-pow B 10 (omega arith)) in
           let e : 2 * d * 10 ^ (B + n) ≡ 2 * d * (A * 10 ^ n) = ap (λ (x : ℕ). 2 * d * x) (pow-add 10 B n) in
           omega (arith, r .under)
+
+  tail-kept : (c : TailMethod) (n k mark place w : ℕ) → Normal F X w → 2 * 10 ^ n ≤ 2 ^ k → HalfDigit F X n w (moved F X (tail c k) mark place w)
+  tail-kept c n k mark place w h l = kept n k w _ h l (relative-bounds F X .tail-relative c k mark place w h)
+
+  -- round moves by half of what shave may
+  round-less : (k mark place w : ℕ) → Normal F X w → moved F X (round k) mark place w * 2 ^ k < size F (magnitude F X w)
+  round-less k mark place w h =
+      let d : ℕ = moved F X (round k) mark place w in
+      let e : d * 2 ^ (k + 1) ≡ d * (2 ^ k * 2) = ap (λ (x : ℕ). d * x) (pow-add 2 k 1) in
+      omega (arith, relative-bounds F X .round-relative k mark place w h, e)
 
   pub decimal-bounds : DecimalBounds F X
   unfolding unit
   decimal-bounds =
       record {
-        digits-kept = kept;
-        nsd-kept = λ c n mark place w h a b. kept c n (keepBits n) mark place w h (keep-bits .enough n a b);
+        digits-kept = tail-kept;
+        nsd-kept = λ c n mark place w h a b. tail-kept c n (keepBits n) mark place w h (keep-bits .enough n a b);
+        round-kept = λ n mark place w h a b. kept n (keepBits n) w _ h (keep-bits .enough n a b) (round-less (keepBits n) mark place w h);
         places-kept = λ r s mark place w h l c.
             let e : 2 ^ B ≡ 2 ^ (B - s) * 2 ^ s = pow-split B s h in
             rw e (mul-le-mul (unit-bounds F X .absolute-moves (B - s) mark place w c) l);

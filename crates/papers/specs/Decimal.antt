@@ -4,7 +4,7 @@ use mathlib.Core.Bool.{false}
 use mathlib.Core.List.{[], _∷_}
 use Prim.Native.Nat.{ℕ, _+_, _-_, _*_, _/_, _^_, _≤_, _<_}
 use Rattle.meaning.specs.Readings.{magnitude, leastExp}
-use Rattle.meaning.specs.Methods.{TailMethod, tail, absolute, decade, clips}
+use Rattle.meaning.specs.Methods.{TailMethod, tail, round, absolute, decade, clips}
 use Rattle.papers.specs.Moved.{moved, Normal}
 
 -- 001, section 2.3: the bits kept for n decimal digits, ceil(3.32 n) + 1
@@ -26,6 +26,8 @@ pub record DecimalBounds (F X : ℕ) : Type 0 where
   -- 10 ^ n ≤ 2 ^ (k - 1), and so for the paper's.
   pub digits-kept : (c : TailMethod) (n k mark place w : ℕ) → Normal F X w → 2 * 10 ^ n ≤ 2 ^ k → HalfDigit F X n w (moved F X (tail c k) mark place w)
   pub nsd-kept : (c : TailMethod) (n mark place w : ℕ) → Normal F X w → 1 ≤ n → n ≤ 15 → HalfDigit F X n w (moved F X (tail c (keepBits n)) mark place w)
+  -- and so does round, with the same bits
+  pub round-kept : (n mark place w : ℕ) → Normal F X w → 1 ≤ n → n ≤ 15 → HalfDigit F X n w (moved F X (round (keepBits n)) mark place w)
   -- 001, section 2.3, Decimal Rounding to r decimal places with the scale 2 ^ s, so with the unit 2 ^ -s: within half of the last place where the scale is at
   -- least 10 ^ r, unless it clips
   pub places-kept : (r s mark place w : ℕ) → s ≤ leastExp F X → 10 ^ r ≤ 2 ^ s → clips F X (absolute (leastExp F X - s)) (magnitude F X w) ≡ false
