@@ -172,7 +172,7 @@ module _ (F : ℕ) where
   unit-mono (absolute q) m n h = le-refl (2 ^ q)
   unit-mono (digits k) m n h = le-refl 0
 
-  largest-mono : (xs : List Method) (m n : ℕ) → m ≤ n → largestUnit F xs m ≤ largestUnit F xs n
+  pub largest-mono : (xs : List Method) (m n : ℕ) → m ≤ n → largestUnit F xs m ≤ largestUnit F xs n
   unfolding largestUnit
   largest-mono [] m n h = le-refl 0
   largest-mono (x ∷ xs) m n h = omega (arith, unit-mono x m n h, largest-mono xs m n h)
@@ -191,7 +191,7 @@ unfolding distance
 half-further a b c g h = omega arith
 
 -- a value p within half a step of v bounds its magnitude
-magnitude-bound : (v p g : ℕ) → magnitude 23 8 v < infinity 23 8 → 2 * distance (position 23 8 v) p ≤ g
+pub magnitude-bound : (v p g : ℕ) → magnitude 23 8 v < infinity 23 8 → 2 * distance (position 23 8 v) p ≤ g
     → magnitude 23 8 v ≤ magnitudeOf 23 8 (distance p (origin 23 8) + g / 2)
 magnitude-bound v p g f h =
     omega (

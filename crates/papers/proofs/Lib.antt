@@ -9,6 +9,11 @@ pub mod DigitRounding
 pub mod Repetition
 pub mod Halfshaving
 pub mod LayerBounds
+pub mod Distances
+pub mod NearestMagnitude
+pub mod Gaps
+pub mod References
+pub mod Doubles
 pub mod Unpacked
 pub mod Listings
 pub mod Unbiased

@@ -8,10 +8,10 @@ use Prim.Native.Nat.{ℕ, _+_, _*_, _/_, _^_, _≤_, _<_}
 use lib.Dec.{leb}
 use lib.ListN.{length, getD}
 use Rattle.meaning.specs.Readings.{size, spacing, spacingExp, sign, magnitude, finite, magnitudeOf, origin, position, distance}
-use Rattle.meaning.specs.Methods.{Method}
+use Rattle.meaning.specs.Methods.{Method, trimmable}
 use Rattle.meaning.specs.Layers.{Layer, code, codeMeaning, nearestDouble, unpackedCode}
 use Rattle.meaning.specs.Calls.{largestUnit}
-use Rattle.meaning.specs.Claim.{Coded}
+use Rattle.meaning.specs.Claim.{Kept, Coded}
 use Rattle.papers.specs.LayerBounds.{layer, AllFinite}
 
 -- what a code of a layer unpacks to, and the size of its exact meaning, in least spacings of doubles: one of singles is 2 ^ 925 of them
@@ -54,11 +54,27 @@ pub record Unpacked : Type 0 where
       → (i : ℕ) → i < length ws → getD ws i 0 ≢ mark
       → let c = code 23 8 16 mark (layer mark ws) (getD ws i 0) in
       size 52 (magnitude 52 11 (double (layer mark ws) c)) ≡ meaningSize (layer mark ws) c
-  -- Demand 3 for a reader of the doubles: w is the single that was sent, xs the accepted calls, c the code and l its layer (`Coded`, which demand 3 gives of every code). To the
-  -- unit and half a step comes half a spacing of the double: all three twice here, and in least spacings of doubles.
+  -- The double lies within half a step of every single v that the meaning lies so near: rounding takes it no further. Where the meaning is rounded, 53 bits hold v less
+  -- half a step and v more half a step, and the double doesn't pass them.
+  pub half-kept : (l : Layer) (c v : ℕ) → finite 23 8 (l .reference) ≡ true → l .exponent ≤ 263 → c < 65535 → finite 23 8 v ≡ true
+      → 2 * distance (position 23 8 v) (codeMeaning 23 8 l c) ≤ 2 ^ l .exponent → 2 * apart v (double l c) ≤ 2 ^ l .exponent * 2 ^ 925
+  -- So what packing made of a reading lies within half a step of it after unpacking too.
+  pub packed-half : (mark : ℕ) (ws : List ℕ) → AllFinite mark ws → (i : ℕ) → i < length ws → getD ws i 0 ≢ mark
+      → let c = code 23 8 16 mark (layer mark ws) (getD ws i 0) in 2 * apart (getD ws i 0) (double (layer mark ws) c) ≤ 2 ^ layer mark ws .exponent * 2 ^ 925
+  -- And demand 3's bound holds of the doubles as it stands: w is the single that was sent, xs are the accepted calls, and v is what they left (`Kept`) and was packed, with a
+  -- code within half a step of it (`half-step` in LayerBounds.antt).
+  pub sent-kept : (mark : ℕ) (xs : List Method) (w v : ℕ) (l : Layer) (c : ℕ) → finite 23 8 (l .reference) ≡ true → l .exponent ≤ 263 → c < 65535
+      → trimmable 23 8 mark w ≡ true → Kept 23 8 mark xs w v
+      → 2 * distance (position 23 8 v) (codeMeaning 23 8 l c) ≤ 2 ^ l .exponent → 2 * apart w (double l c) < (2 * largestUnit 23 xs (magnitude 23 8 w) + 2 ^ l .exponent) * 2 ^ 925
+  -- the same of the unit that needs nothing of w, at the largest size that the code and the step can stand for
+  pub sent-kept-left : (mark : ℕ) (xs : List Method) (w v : ℕ) (l : Layer) (c : ℕ) → finite 23 8 (l .reference) ≡ true → l .exponent ≤ 263 → c < 65535
+      → trimmable 23 8 mark w ≡ true → Kept 23 8 mark xs w v → 2 * distance (position 23 8 v) (codeMeaning 23 8 l c) ≤ 2 ^ l .exponent
+      → 2 * apart w (double l c)
+      < (2 * largestUnit 23 xs (magnitudeOf 23 8 (distance (codeMeaning 23 8 l c) (origin 23 8) + 2 ^ l .exponent / 2)) + 2 ^ l .exponent) * 2 ^ 925
+  -- From a code's promise alone (`Coded`), without the reading that was packed: to the unit and half a step comes half a spacing of the double, which can't be left out here
+  -- (`double-beyond` in Cases.antt).
   pub sent-near : (mark : ℕ) (xs : List Method) (w : ℕ) (l : Layer) (c : ℕ) → finite 23 8 (l .reference) ≡ true → l .exponent ≤ 263 → c < 65535 → Coded mark xs w l c
       → 2 * apart w (double l c) < (2 * largestUnit 23 xs (magnitude 23 8 w) + 2 ^ l .exponent) * 2 ^ 925 + spacing 52 (magnitude 52 11 (double l c))
-  -- the same of the unit that needs nothing of w, at the largest size that the code and the step can stand for
   pub sent-near-left : (mark : ℕ) (xs : List Method) (w : ℕ) (l : Layer) (c : ℕ) → finite 23 8 (l .reference) ≡ true → l .exponent ≤ 263 → c < 65535 → Coded mark xs w l c
       → 2 * apart w (double l c)
       < (2 * largestUnit 23 xs (magnitudeOf 23 8 (distance (codeMeaning 23 8 l c) (origin 23 8) + 2 ^ l .exponent / 2)) + 2 ^ l .exponent) * 2 ^ 925
