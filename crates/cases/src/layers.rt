@@ -141,7 +141,6 @@ fn put_layers(
     put_codes(put_text(at, b" codes"), codes, n)
 }
 
-// readings|source|L|readings|references|step exponents|codes
 // Singles packed into as many layers as there are references, with document 01's mark.
 pub fn layers(row: &[u8]) -> bool {
     let length = decimal(row, 2);
@@ -182,7 +181,6 @@ fn untouched(left: Packs) -> bool {
         && same_codes(codes, [BEFORE; 4])
 }
 
-// pack|source|L|readings|codes|references|exponents|number
 // Packing's questions, with document 01's mark: lengths of the arrays, at most 4, and the refusal's number, or 0. Refused, nothing is written.
 pub fn asked_pack(row: &[u8]) -> bool {
     let length = decimal(row, 2);
@@ -255,7 +253,6 @@ fn unpack(
     }
 }
 
-// codes|source|codes|reference|step exponent|mark|what must come
 // The codes of one layer, unpacked into doubles.
 pub fn unpacked(row: &[u8]) -> bool {
     let all = codes(row, 2);
@@ -282,7 +279,6 @@ fn refused_or(row: &[u8], at: usize, expected: u32, left: Unpacks) -> bool {
     answered(row, at, expected, left.number, ok)
 }
 
-// unpack|source|L|codes|references|exponents|readings|number
 // Unpacking's questions on lengths of the arrays, at most 4: the refusal's number, or 0.
 pub fn asked_unpack(row: &[u8]) -> bool {
     let length = decimal(row, 2);
@@ -310,7 +306,6 @@ pub fn asked_unpack(row: &[u8]) -> bool {
     refused_or(row, at, refusal(row, 7), got)
 }
 
-// values|source|reference|step exponent|mark|number
 // Unpacking's questions on a layer of one code and on the double mark.
 pub fn asked_layer(row: &[u8]) -> bool {
     let reference = single(row, 2);

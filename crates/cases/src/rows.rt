@@ -1,4 +1,5 @@
 // The rows of the table: a case to a line, with bars between its fields. A line that begins with # is printed as it stands.
+use crate::kinds::is_readable;
 use crate::layers::asked_layer;
 use crate::layers::asked_pack;
 use crate::layers::asked_unpack;
@@ -13,13 +14,14 @@ use crate::trims::loader;
 use crate::trims::one_single;
 use crate::trims::paper;
 use crate::trims::twice;
+use check::same;
 use table::fields::initial;
 use table::fields::piece;
 use table::line::end;
 use table::line::put_number;
 use table::line::put_text;
 
-// The row's case, by the first letter of its kind: whether it is right. A kind that there isn't is wrong.
+// The case of a row that can be run: whether it is right. No two kinds have the same first letter.
 fn right(row: &[u8]) -> bool {
     match initial(row, 0) {
         b's' => one_single(row),
@@ -36,14 +38,8 @@ fn right(row: &[u8]) -> bool {
         b'u' => asked_unpack(row),
         b'v' => asked_layer(row),
         b'f' => file(row),
-        _ => unknown(row),
+        _ => false,
     }
-}
-
-fn unknown(row: &[u8]) -> bool {
-    put_text(put_text(0, b"WRONG, no such kind: "), row);
-    end();
-    false
 }
 
 // What a line adds to the numbers of cases, and of those that are wrong.
@@ -53,7 +49,7 @@ pub struct Count {
 }
 
 fn one_line(line: &[u8]) -> Count {
-    if line.len() == 0 {
+    if line.len() == 0 || same(line, b"\r") {
         return Count { cases: 0, wrong: 0 };
     }
     if line[0] == b'#' {
@@ -61,16 +57,28 @@ fn one_line(line: &[u8]) -> Count {
         end();
         return Count { cases: 0, wrong: 0 };
     }
-    if right(line) {
+    if is_readable(line) && right(line) {
         return Count { cases: 1, wrong: 0 };
     }
     Count { cases: 1, wrong: 1 }
 }
 
 fn total(cases: u64, wrong: u64) {
+    if cases == 0 {
+        put_text(0, b"The sheet has no case.\n");
+    }
     let at = put_number(put_text(0, b"\n"), cases);
     let at = put_number(put_text(at, b" cases, "), wrong);
     put_text(at, b" wrong\n");
+}
+
+// What is said of a sheet that is longer than the room for it. Its rows aren't run: the last one might be cut.
+pub fn too_long() {
+    put_text(
+        0,
+        b"WRONG, the sheet is longer than 65536 bytes, and no row of it was run: make it two sheets\n",
+    );
+    total(1, 1);
 }
 
 // The whole table: every line, and at the end how many cases there are and how many are wrong.

@@ -56,7 +56,6 @@ fn listed(row: &[u8], text: &[u8], expected: &[u8]) -> bool {
     judge_text(row, &out[..n], expected)
 }
 
-// file|source|text|what must come
 // A whole text, with \n where a line ends.
 pub fn file(row: &[u8]) -> bool {
     let mut input = [0u8; 400];

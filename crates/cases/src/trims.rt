@@ -77,7 +77,6 @@ fn columns(at: usize, x: u32, mark: u32, expected: u32, got: u32) -> usize {
     fill(single_at(at, 74, got), 84)
 }
 
-// single|source|method|setting|reading|mark|what must come|fate
 // One single: an array of one, and the loader's call at place 0, which must agree with it.
 pub fn one_single(row: &[u8]) -> bool {
     let by = method(row, 2);
@@ -95,7 +94,6 @@ pub fn one_single(row: &[u8]) -> bool {
     judge_fate(row, at, ok, got_fate)
 }
 
-// twice|source|method|setting|reading|mark|what must come||second method|second setting
 // One single through two calls, the second on what the first left.
 pub fn twice(row: &[u8]) -> bool {
     let second = method(row, 8);
@@ -112,7 +110,6 @@ pub fn twice(row: &[u8]) -> bool {
     judge(row, columns(at, x, missing, expected, got), got == expected)
 }
 
-// bits|source|method|setting|bits
 // A paper's row about pi, with its bits as they are printed there.
 pub fn paper(row: &[u8]) -> bool {
     let expected = bits(row, 4);
@@ -126,7 +123,6 @@ pub fn paper(row: &[u8]) -> bool {
     judge(row, fill(at, 92), got == expected)
 }
 
-// loader|source|method|setting|reading|place|what must come
 // The loader's call at any place; its answer is a 64-bit number.
 pub fn loader(row: &[u8]) -> bool {
     let x = single(row, 4);
@@ -140,7 +136,6 @@ pub fn loader(row: &[u8]) -> bool {
     judge(row, fill(at, 102), got == expected)
 }
 
-// double|source|method|setting|reading||what must come|fate
 // One double, with a NaN for the mark.
 pub fn double(row: &[u8]) -> bool {
     let x = hex(row, 4);
@@ -168,7 +163,6 @@ fn number_of(answer: trim::Answer) -> u32 {
     }
 }
 
-// question|source|method|setting|||number
 // A trim's questions, put to an array of one single and to the loader's call: the refusal's number, or 0 for an accepted call. Refused, the reading stays.
 pub fn asked(row: &[u8]) -> bool {
     let by = method(row, 2);
@@ -182,7 +176,6 @@ pub fn asked(row: &[u8]) -> bool {
     answered(row, at, expected, number_of(answer), ok)
 }
 
-// wide|source|method|setting|||number
 // The same for doubles.
 pub fn asked_double(row: &[u8]) -> bool {
     let expected = refusal(row, 6);
@@ -206,7 +199,6 @@ fn trimmed(readings: [u32; 4], n: usize, by: u32, setting: i32, missing: u32) ->
     left
 }
 
-// array|source|method|setting|readings|mark|what must come
 // Up to four singles as one array.
 pub fn array(row: &[u8]) -> bool {
     let readings = singles(row, 4);

@@ -57,7 +57,7 @@ pub fn piece(s: &[u8], at: usize, stop: u8) -> Span
 }
 
 // Part k of what the byte `stop` parts.
-fn part(s: &[u8], k: usize, stop: u8) -> &[u8] {
+pub fn part(s: &[u8], k: usize, stop: u8) -> &[u8] {
     let mut at: usize = 0;
     let mut i: usize = 0;
     while i < k {
@@ -94,7 +94,7 @@ pub fn note(row: &[u8]) -> &[u8] {
 }
 
 // The digits' value, with spaces between them passed over; of more digits than fit in 64 bits the last ones count.
-fn number(s: &[u8], base: u64) -> u64
+pub fn number(s: &[u8], base: u64) -> u64
     requires { ⌜ base ≤ 16 ⌝ }
 {
     let mut v: u64 = 0;
@@ -158,14 +158,14 @@ pub fn signed(row: &[u8], k: usize) -> i32 {
     signed_item(row, k, 0)
 }
 
-// A method by its word, or by its number where it is none of the seven.
+// A method by its name, or by its number: `method 7`.
 pub fn method(row: &[u8], k: usize) -> u32 {
     let s = field(row, k);
     let known = method_word::method_of(s, 0, s.len());
     if known < 7 {
         return known;
     }
-    low(number(s, 10))
+    low(number(part(s, 1, b' '), 10))
 }
 
 // The mark, or 01's where none is named.
@@ -184,13 +184,16 @@ pub fn mark_double(row: &[u8], k: usize) -> u64 {
     hex(row, k)
 }
 
-// The first byte of a field, 0 where there is none.
-pub fn initial(row: &[u8], k: usize) -> u8 {
-    let s = field(row, k);
+// The first byte of a text, 0 where there is none.
+pub fn first(s: &[u8]) -> u8 {
     if s.len() == 0 {
         return 0;
     }
     s[0]
+}
+
+pub fn initial(row: &[u8], k: usize) -> u8 {
+    first(field(row, k))
 }
 
 pub fn fate(row: &[u8], k: usize) -> u32 {
