@@ -1,5 +1,5 @@
 // How a row of each kind is written, as `table::faults` has it: the kind, and the name and the form of each further field.
-// The forms are any, bits, code, double, empty, fate, hexadecimal, integer, length, method, places, refusal, single and text.
+// The forms are any, bits, code, double, empty, fate, hexadecimal, integer, length, method, quantity, refusal, single and text.
 use table::faults::fits;
 use table::faults::is_plain;
 use table::faults::no_kind;
@@ -57,11 +57,11 @@ fn fits_any(row: &[u8]) -> bool {
         ),
         b'p' => fits(
             row,
-            b"pack|source:any|L:length|readings:single?*3|codes:places|references:places|exponents:places|refusal:refusal",
+            b"pack|source:any|L:length|readings:single?*3|codes:quantity|references:quantity|exponents:quantity|refusal:refusal",
         ),
         b'u' => fits(
             row,
-            b"unpack|source:any|L:length|codes:places|references:places|exponents:places|readings:places|refusal:refusal",
+            b"unpack|source:any|L:length|codes:quantity|references:quantity|exponents:quantity|readings:quantity|refusal:refusal",
         ),
         b'v' => fits(
             row,

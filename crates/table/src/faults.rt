@@ -47,7 +47,7 @@ fn put_reason(at: usize, form: u8) -> usize {
         ),
         b'l' => put_text(at, b"not a number from 0 to 999999999"),
         b'm' => put_text(at, b"not a method's name, nor method and a number"),
-        b'p' => put_text(at, b"not a number from 0 to 4"),
+        b'q' => put_text(at, b"not a number from 0 to 4"),
         b'r' => put_text(at, b"not a number from 0 to 9"),
         b's' => put_text(at, b"not 8 digits 0 to 9, A to F in capitals"),
         _ => put_text(at, b"not at most 400 bytes, with an n after each backslash"),
@@ -164,7 +164,7 @@ fn says(row: &[u8], reason: &[u8]) -> bool {
     false
 }
 
-fn is_marked(row: &[u8]) -> bool {
+fn has_byte_order_mark(row: &[u8]) -> bool {
     if row.len() < 3 {
         return false;
     }
@@ -176,7 +176,7 @@ fn is_marked(row: &[u8]) -> bool {
 
 // What some editors add to a line and don't show. Where it is there, the row's line says so.
 pub fn is_plain(row: &[u8]) -> bool {
-    if is_marked(row) {
+    if has_byte_order_mark(row) {
         return says(
             row,
             b"a byte order mark stands before the row: save the sheet as plain text",
@@ -185,7 +185,7 @@ pub fn is_plain(row: &[u8]) -> bool {
     if parts(row, b'\r') > 1 {
         return says(
             row,
-            b"a carriage return stands in the row, as where Windows ends lines: let a line feed end them",
+            b"a carriage return stands in the row: save the sheet with the line ends of Linux, not of Windows",
         );
     }
     true

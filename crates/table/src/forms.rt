@@ -81,9 +81,10 @@ fn is_text(s: &[u8]) -> bool {
     !escaped && s.len() <= 400
 }
 
-// Has the text the form with this letter? `put_reason` says them in words. A letter that is none of these takes any text.
+// Has the text the form with this letter? `put_reason` says them in words. The kind's own field has no form, and no letter.
 pub fn has_form(s: &[u8], form: u8) -> bool {
     match form {
+        0 | b'a' => true,
         b'b' => is_bits(s),
         b'c' => up_to(s, 65535),
         b'd' => so_many(s, 16, 16),
@@ -93,10 +94,10 @@ pub fn has_form(s: &[u8], form: u8) -> bool {
         b'i' => is_integer(s),
         b'l' => up_to(s, 999999999),
         b'm' => is_method(s),
-        b'p' => up_to(s, 4),
+        b'q' => up_to(s, 4),
         b'r' => up_to(s, 9),
         b's' => so_many(s, 8, 16),
         b't' => is_text(s),
-        _ => true,
+        _ => false,
     }
 }
