@@ -19,7 +19,7 @@ use table::line::double_at;
 use table::line::end;
 use table::line::expecting;
 use table::line::getting;
-use table::line::judge;
+use table::line::judge_accepted;
 use table::line::put_codes;
 use table::line::put_doubles;
 use table::line::put_exponents;
@@ -163,7 +163,7 @@ pub fn layers(row: &[u8]) -> bool {
     let ok = same_singles(got_references, references)
         && same_exponents(got_steps, steps)
         && same_codes(got_codes, all);
-    judge(row, put_text(at, b" "), ok)
+    judge_accepted(row, put_text(at, b" "), ok, got.number != 0)
 }
 
 fn put_count(at: usize, n: usize, what: &[u8]) -> usize {
@@ -269,7 +269,7 @@ pub fn unpacked(row: &[u8]) -> bool {
     put_doubles(expecting(), expected, n);
     end();
     let at = put_text(put_doubles(getting(), readings, n), b" ");
-    judge(row, at, same_doubles(readings, expected))
+    judge_accepted(row, at, same_doubles(readings, expected), got.number != 0)
 }
 
 // The last columns of a case about unpacking's questions. Refused, nothing is written.

@@ -26,6 +26,7 @@ use table::line::expecting;
 use table::line::fill;
 use table::line::getting;
 use table::line::judge;
+use table::line::judge_accepted;
 use table::line::judge_fate;
 use table::line::put_call;
 use table::line::put_number;
@@ -102,25 +103,30 @@ pub fn twice(row: &[u8]) -> bool {
     let missing = mark(row, 5);
     let expected = single(row, 6);
     let mut readings = [x];
-    trim::trim_singles(&mut readings, method(row, 2), signed(row, 3), missing);
-    trim::trim_singles(&mut readings, second, setting, missing);
+    let before = trim::trim_singles(&mut readings, method(row, 2), signed(row, 3), missing);
+    let answer = trim::trim_singles(&mut readings, second, setting, missing);
     let got = readings[0];
     let at = put_text(start_call(row), b", ");
-    let at = put_call(at, second, setting);
-    judge(row, columns(at, x, missing, expected, got), got == expected)
+    let at = columns(put_call(at, second, setting), x, missing, expected, got);
+    judge_accepted(
+        row,
+        at,
+        got == expected,
+        is_refused(before) || is_refused(answer),
+    )
 }
 
 // A paper's row about pi, with its bits as they are printed there.
 pub fn paper(row: &[u8]) -> bool {
     let expected = bits(row, 4);
     let mut readings = [PI];
-    trim::trim_singles(&mut readings, method(row, 2), signed(row, 3), MARK);
+    let answer = trim::trim_singles(&mut readings, method(row, 2), signed(row, 3), MARK);
     let got = readings[0];
     let at = fill(start_call(row), 36);
     let at = put_text(at, field(row, 4));
     let at = single_at(at, 72, expected);
     let at = single_at(at, 82, got);
-    judge(row, fill(at, 92), got == expected)
+    judge_accepted(row, fill(at, 92), got == expected, is_refused(answer))
 }
 
 // The loader's call at any place; its answer is a 64-bit number.
@@ -163,6 +169,10 @@ fn number_of(answer: trim::Answer) -> u32 {
     }
 }
 
+fn is_refused(answer: trim::Answer) -> bool {
+    number_of(answer) != 0
+}
+
 // A trim's questions, put to an array of one single and to the loader's call: the refusal's number, or 0 for an accepted call. Refused, the reading stays.
 pub fn asked(row: &[u8]) -> bool {
     let by = method(row, 2);
@@ -190,13 +200,22 @@ pub fn same_singles(a: [u32; 4], b: [u32; 4]) -> bool {
     a[0] == b[0] && a[1] == b[1] && a[2] == b[2] && a[3] == b[3]
 }
 
+// What an array holds after a call, and whether the call was refused.
+pub struct AfterCall {
+    pub readings: [u32; 4],
+    pub refused: bool,
+}
+
 // The readings with the first n of them trimmed as one array.
-fn trimmed(readings: [u32; 4], n: usize, by: u32, setting: i32, missing: u32) -> [u32; 4]
+fn trimmed(readings: [u32; 4], n: usize, by: u32, setting: i32, missing: u32) -> AfterCall
     requires { ⌜ n ≤ 4 ⌝ }
 {
     let mut left = readings;
-    trim::trim_singles(&mut left[..n], by, setting, missing);
-    left
+    let answer = trim::trim_singles(&mut left[..n], by, setting, missing);
+    AfterCall {
+        readings: left,
+        refused: is_refused(answer),
+    }
 }
 
 // Up to four singles as one array.
@@ -207,7 +226,8 @@ pub fn array(row: &[u8]) -> bool {
     let expected = singles(row, 6);
     let by = method(row, 2);
     let setting = signed(row, 3);
-    let left = trimmed(readings, n, by, setting, missing);
+    let got = trimmed(readings, n, by, setting, missing);
+    let left = got.readings;
     let at = put_singles(start_list(row), readings, n);
     let at = put_text(put_call(put_text(at, b" "), by, setting), b", mark");
     single_at(at, 0, missing);
@@ -215,5 +235,5 @@ pub fn array(row: &[u8]) -> bool {
     put_singles(expecting(), expected, n);
     end();
     let at = put_text(put_singles(getting(), left, n), b" ");
-    judge(row, at, same_singles(left, expected))
+    judge_accepted(row, at, same_singles(left, expected), got.refused)
 }

@@ -1,5 +1,6 @@
 // The lines of the table, written to standard output piece by piece. Each function writes something at the column `at`, and answers the column after it.
 use crate::fields::PLAIN;
+use crate::fields::REFUSED;
 use crate::fields::method;
 use crate::fields::note;
 use crate::fields::signed;
@@ -229,6 +230,14 @@ pub fn judge_fate(row: &[u8], at: usize, ok: bool, fate: u32) -> bool {
 // Ends a case's line with the verdict and the note.
 pub fn judge(row: &[u8], at: usize, ok: bool) -> bool {
     judge_fate(row, at, ok, PLAIN)
+}
+
+// The same of a case whose call has to be accepted: refused, it is wrong whatever stands there.
+pub fn judge_accepted(row: &[u8], at: usize, ok: bool, refused: bool) -> bool {
+    if refused {
+        return judge_fate(row, at, false, REFUSED);
+    }
+    judge(row, at, ok)
 }
 
 // The last columns of a case about a question: the expected answer, the one that came, and the verdict.

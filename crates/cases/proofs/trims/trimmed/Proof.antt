@@ -13,10 +13,13 @@ slice-aggregate-trim-singles c = sym (length-take-le _ _ (array-borrow-prefix-le
 trim-singles-requires : tie.Need-trim-singles-requires
 trim-singles-requires c κs = search needs
 
+is-refused-requires : tie.Need-is-refused-requires
+is-refused-requires c κs = search needs
+
 returns : tie.Need-returns
 returns c = search needs
 
 pub trimmed-spec : {M : Type 1} → statement M
 trimmed-spec =
     tie.close
-    (tie.spec array-borrow-prefix-left slice-aggregate-trim-singles trim-singles-requires returns)
+    (tie.spec array-borrow-prefix-left slice-aggregate-trim-singles trim-singles-requires is-refused-requires returns)
