@@ -53,13 +53,18 @@ module _ (F X : ℕ) (x : Method) (r : Ready x) (place w : ℕ) where
       → (magnitude F X w < infinity F X → P (newMagnitude F X x place (magnitude F X w))) → P (magnitude F X (trimmed F X x mark place w))
   left-has mark P z h = trimmed-has mark (λ v. P (magnitude F X v)) (λ _. z) (λ e f s. rw (result-magnitude f) (h f))
 
+  -- only this law and the cases look into `moved`
+  pub moved-is : (mark : ℕ) → moved F X x mark place w ≡ distance (position F X w) (position F X (trimmed F X x mark place w))
+  unfolding moved distance
+  moved-is mark = omega arith
+
   -- what holds of no distance, and of the distance of the sizes, holds of the reading's
   pub moved-has : (mark : ℕ) (P : ℕ → Type 0) → P 0
       → (magnitude F X w < infinity F X → P (distance (size F (magnitude F X w)) (size F (newMagnitude F X x place (magnitude F X w)))))
       → P (moved F X x mark place w)
-  unfolding moved
   moved-has mark P z h =
-      trimmed-has mark (λ v. P (distance (position F X w) (position F X v))) (λ _. rw (distance-self (position F X w)) z)
+      rw (moved-is mark)
+      (trimmed-has mark (λ v. P (distance (position F X w) (position F X v))) (λ _. rw (distance-self (position F X w)) z)
       (λ e f s.
       rw (position-distance F X w (result F X x place w) f (result-below f) (result-sign f), result-magnitude f)
-      (h f))
+      (h f)))

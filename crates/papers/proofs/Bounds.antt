@@ -4,14 +4,15 @@ use Prim.Native.Nat.{ℕ, _+_, _-_, _*_, _^_, _≤_, _<_, zero-le}
 use native.Mathlib.Nat.{div-add-mod', div-mul-le-self, mod-lt, le-refl, le-of-eq, le-trans, sub-le, mul-le-mul-left, mul-le-mul-right}
 use native.Mathlib.Decide.{decLt, ℕ-discrete}
 use native.Mathlib.Omega.{arith}
+use borrow.Author.Tests.{leb-false}
 use lib.Pow.{pow-pos, pow-mono}
 use Rattle.meaning.specs.Readings.{size, spacing, spacingExp, magnitude, infinity}
-use Rattle.meaning.specs.Methods.{Method, TailMethod, tail, round, absolute, digits, shave, set, halfshave, unit, shaved, rounded, tailChanged, newMagnitude}
+use Rattle.meaning.specs.Methods.{Method, TailMethod, tail, round, absolute, digits, shave, set, halfshave, unit, shaved, rounded, tailChanged, clips, newMagnitude}
 use Rattle.meaning.proofs.Sizes.{size-le, spacing-mono}
 use Rattle.meaning.proofs.Nearest.{nearest-floor}
 use Rattle.meaning.proofs.Tails.{same-spacing, tail-changed-agree}
 use Rattle.meaning.proofs.Rounding.{round-within, round-clipped}
-use Rattle.papers.specs.Moved.{unitOf, unitLeft}
+use Rattle.papers.specs.Moved.{moved, unitOf, unitLeft}
 use Rattle.papers.specs.Bounds.{UnitBounds, LeftBounds}
 use Rattle.papers.proofs.Apart.{left-has, moved-has}
 use Rattle.papers.proofs.TailValues.{shave-is, set-some}
@@ -32,19 +33,28 @@ module _ (F X : ℕ) where
       go (yes z) = rw z zero-le
       go (no z) = rw (set-some place t m z) (omega (arith, div-add-mod' m (2 ^ t), mod-lt m (pow-pos t)))
 
-  pub unit-bounds : UnitBounds F X
+  -- ---- half a unit, for halfshave and for round below infinity
+
+  pub halfshave-half : (k mark place w : ℕ) → 2 * moved F X (tail halfshave k) mark place w ≤ unitOf F X (tail halfshave k) w
   unfolding unit newMagnitude
+  halfshave-half k mark place w =
+      moved-has F X (tail halfshave k) tt place w mark (λ d. 2 * d ≤ unit F (tail halfshave k) (magnitude F X w)) zero-le
+      (λ f. halfshave-step F place (F - k) (magnitude F X w) (sub-le F k))
+
+  round-near : (k mark place w : ℕ) → rounded (F - k) (magnitude F X w) < infinity F X → 2 * moved F X (round k) mark place w ≤ unitOf F X (round k) w
+  unfolding unit
+  round-near k mark place w l =
+      moved-has F X (round k) tt place w mark (λ d. 2 * d ≤ unit F (round k) (magnitude F X w)) zero-le (λ f. round-half F X k place (magnitude F X w) l)
+
+  pub unit-bounds : UnitBounds F X
+  unfolding unit newMagnitude clips
   unit-bounds =
       record {
         tail-moves = λ c k mark place w.
             moved-has F X (tail c k) tt place w mark (λ d. d + spacing F (magnitude F X w) ≤ unit F (tail c k) (magnitude F X w)) (one-spacing k (magnitude F X w))
             (λ f. tail-step F c place (F - k) (magnitude F X w) (sub-le F k));
-        halfshave-moves = λ k mark place w.
-            moved-has F X (tail halfshave k) tt place w mark (λ d. 2 * d ≤ unit F (tail halfshave k) (magnitude F X w)) zero-le
-            (λ f. halfshave-step F place (F - k) (magnitude F X w) (sub-le F k));
-        round-moves = λ k mark place w c.
-            moved-has F X (round k) tt place w mark (λ d. 2 * d ≤ unit F (round k) (magnitude F X w)) zero-le
-            (λ f. round-half F X k place (magnitude F X w) c);
+        halfshave-moves = λ k mark place w. omega (arith, halfshave-half k mark place w);
+        round-moves = λ k mark place w c. omega (arith, round-near k mark place w (omega (arith, leb-false)));
         round-always = λ k mark place w.
             moved-has F X (round k) tt place w mark (λ d. d + spacing F (magnitude F X w) ≤ unit F (round k) (magnitude F X w)) (one-spacing k (magnitude F X w))
             (λ f. round-whole F X k place (magnitude F X w));
@@ -91,13 +101,14 @@ module _ (F X : ℕ) where
   some-spacing m = pow-pos (spacingExp F m)
 
   pub left-bounds : LeftBounds F X
+  unfolding clips
   left-bounds =
       record {
         unit-grows = unit-grows;
         tail-left = λ c k mark place w.
             omega (arith, unit-bounds .tail-moves c k mark place w, unit-grows (tail c k) mark place w, some-spacing (magnitude F X w));
-        halfshave-left = λ k mark place w. omega (arith, unit-bounds .halfshave-moves k mark place w, unit-grows (tail halfshave k) mark place w);
-        round-left = λ k mark place w c. omega (arith, unit-bounds .round-moves k mark place w c, unit-grows (round k) mark place w);
+        halfshave-left = λ k mark place w. omega (arith, halfshave-half k mark place w, unit-grows (tail halfshave k) mark place w);
+        round-left = λ k mark place w c. omega (arith, round-near k mark place w (omega (arith, leb-false)), unit-grows (round k) mark place w);
         round-always-left = λ k mark place w.
             omega (arith, unit-bounds .round-always k mark place w, unit-grows (round k) mark place w, some-spacing (magnitude F X w));
         absolute-left = λ q mark place w c. omega (arith, unit-bounds .absolute-moves q mark place w c, unit-grows (absolute q) mark place w);

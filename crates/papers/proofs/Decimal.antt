@@ -84,7 +84,7 @@ module _ (F X : ℕ) where
   unfolding unit
   decimal-bounds =
       record {
-        digits-kept = tail-kept;
+        digits-kept = λ c n k mark place w h l. tail-kept c n k mark place w h (omega arith);
         nsd-kept = λ c n mark place w h a b. tail-kept c n (keepBits n) mark place w h (keep-bits .enough n a b);
         round-kept = λ n mark place w h a b. kept n (keepBits n) w _ h (keep-bits .enough n a b) (round-less (keepBits n) mark place w h);
         places-kept = λ r s mark place w h l c.

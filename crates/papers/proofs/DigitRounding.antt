@@ -17,7 +17,7 @@ use Rattle.meaning.proofs.Tails.{agree-up, agree-finite, tail-changed-agree}
 use Rattle.meaning.proofs.Digits.{Decade, decade-rule, digit-count}
 use Rattle.papers.specs.Moved.{moved}
 use Rattle.papers.specs.DigitRounding.{AsHalfshave, LowestBit, DigitBounds}
-use Rattle.papers.proofs.Apart.{distance-self, trimmed-has, left-has, moved-has, result-magnitude, result-below, result-sign}
+use Rattle.papers.proofs.Apart.{distance-self, trimmed-has, left-has, moved-is, moved-has, result-magnitude, result-below, result-sign}
 use Rattle.papers.proofs.TailValues.{halfshave-none, halfshave-some}
 use Rattle.papers.proofs.Steps.{size-below, shaved-size, halfshave-step}
 
@@ -281,7 +281,7 @@ module _ (F X : ℕ) where
       some : m ≢ 0 → 2 * spacing F m ≤ q → (j : ℕ) → q ≡ 2 ^ j → Bit n place m
       some z l zero e = absurd (omega (arith, pow-pos (spacingExp F m)))
       some z l (suc j) e =
-          record { within = inr (j, size F m / q, odd z l j e, omega (arith, half-moved n place m h f, e, pow-suc 2 j)) }
+          record { within = inr (j, size F m / q, odd z l j e, omega (arith, half-moved n place m h f, e, pow-suc 2 j, pow-pos j)) }
 
       either : m ≢ 0 → 2 * spacing F m ≤ q → (q ≡ 0) ⊎ ((j : ℕ) × (q ≡ 2 ^ j)) → Bit n place m
       either z l (inl o) = absurd (omega (arith, pow-pos (spacingExp F m)))
@@ -296,20 +296,20 @@ module _ (F X : ℕ) where
       go (no z) = by z (decLt q (2 * spacing F m))
 
   lowest-bit : (n mark place w : ℕ) → 1 ≤ n → LowestBit (moved F X (digits n) mark place w) (size F (magnitude F X (trimmed F X (digits n) mark place w)))
-  unfolding moved
   lowest-bit n mark place w h =
-      trimmed-has F X (digits n) h place w mark (λ v. LowestBit (distance (position F X w) (position F X v)) (size F (magnitude F X v)))
+      rw (moved-is F X (digits n) h place w mark)
+      (trimmed-has F X (digits n) h place w mark (λ v. LowestBit (distance (position F X w) (position F X v)) (size F (magnitude F X v)))
       (λ _. record { within = inl (distance-self (position F X w)) })
       (λ e f s.
       rw (position-distance F X w (result F X (digits n) place w) f (result-below F X (digits n) h place w f) (result-sign F X (digits n) h place w f), result-magnitude F X (digits n) h place w f)
-      (bit n place (magnitude F X w) h f))
+      (bit n place (magnitude F X w) h f)))
 
   pub digit-bounds : DigitBounds F X
   digit-bounds =
       record {
         exact = λ n place m h p f. lands n place m h f .exact (λ z. absurd (omega arith));
         bits-kept = λ n place m h f. lands n place m h f .as-halfshave;
-        half-step = half-step;
+        half-step = λ n mark place w h. omega (arith, half-step n mark place w h);
         step-power = λ n m. step n m .power;
         step-largest = λ n m. step n m .largest;
         step-below = λ n m. step n m .under;

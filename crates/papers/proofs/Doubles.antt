@@ -111,10 +111,12 @@ module _ (l : Layer) (k : ℕ) (f : finite 23 8 (l .reference) ≡ true) (e : l 
       go (inl z) = record { digits = x + y; shift = u; is = omega (arith, z, a, b); few = s }
       go (inr z) = record { digits = distance x y; shift = u; is = z ∙ ap₂ distance a b ∙ scaled x y (2 ^ u); few = lt-of-le-of-lt (distance-le x y) s }
 
+  pub zero-bits : r ≡ 0 → Few n
+  zero-bits z = whole 0 k (l .exponent) (ap (size 23) z ∙ size-small 23 0 (omega arith) ∙ sym (zero-mul (2 ^ l .exponent))) refl (omega arith)
+
   -- a spacing of the reference is so many steps, or a step so many of its spacings
-  pub held-bits : HeldIn53 l → Few n
-  held-bits (inl z) = whole 0 k (l .exponent) (ap (size 23) z ∙ size-small 23 0 (omega arith) ∙ sym (zero-mul (2 ^ l .exponent))) refl (omega arith)
-  held-bits (inr (a, b)) = go (form 23 r) (decLe (l .exponent) q)
+  pub step-bits : l .exponent ≤ spacingExp 23 r + 37 → spacingExp 23 r ≤ l .exponent + 29 → Few n
+  step-bits a b = go (form 23 r) (decLe (l .exponent) q)
     where
       q : ℕ
       q = spacingExp 23 r
@@ -128,6 +130,10 @@ module _ (l : Layer) (k : ℕ) (f : finite 23 8 (l .reference) ≡ true) (e : l 
           whole (s .sig) (k * 2 ^ (l .exponent - q)) q (size-form 23 r s)
           (ap (λ (x : ℕ). k * x) (pow-split (l .exponent) q (omega arith)) ∙ sym (mul-assoc k (2 ^ (l .exponent - q)) (2 ^ q)))
           (let w : k * 2 ^ (l .exponent - q) ≤ 65534 * 2 ^ 37 = mul-le-mul {n₂ = 65534} (omega arith) (pow-mono {i = l .exponent - q} {j = 37} (omega arith)) in omega (arith, s .below))
+
+  pub held-bits : HeldIn53 l → Few n
+  held-bits (inl z) = zero-bits (omega arith)
+  held-bits (inr (a, b)) = step-bits (omega arith) (omega arith)
 
   room : 2 * (n * 2 ^ 925) < size 52 (infinity 52 11)
   room = room-of n n-small

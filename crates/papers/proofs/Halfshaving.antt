@@ -1,9 +1,10 @@
 -- Where grooming changed the reading, the groomed one agrees with it above the tail, and so halfshave makes the same of both, unless the groomed one is zero, which it
 -- leaves; and where it would make the mark, it leaves each as it is.
 use mathlib.Core.Path.{_≡_, refl, sym, ap, _∙_}
-use mathlib.Core.Logic.{_≢_, _⊎_, inl, inr, _↔_}
+use mathlib.Core.Logic.{_≢_, _⊎_, inl, inr, _↔_, ⊎-map}
 use Prim.Native.Nat.{ℕ, _-_, _<_}
 use native.Mathlib.Decide.{ℕ-discrete}
+use native.Mathlib.Omega.{arith}
 use Rattle.meaning.specs.Readings.{magnitude, infinity}
 use Rattle.meaning.specs.Methods.{TailMethod, tail, groom, halfshave, tailChanged, result, trimmed}
 use Rattle.meaning.proofs.Patterns.{pattern-back}
@@ -102,4 +103,8 @@ module _ (F X k mark place w : ℕ) where
 
 module _ (F X : ℕ) where
   pub halfshaving : Halfshaving F X
-  halfshaving = record { same-where = λ k mark place w. exactly F X k mark place w }
+  halfshaving =
+      record {
+        same-where = λ k mark place w.
+            (λ e. ⊎-map (omega arith) (omega arith) (exactly F X k mark place w .0 e), λ c. exactly F X k mark place w .1 (⊎-map (omega arith) (omega arith) c));
+      }

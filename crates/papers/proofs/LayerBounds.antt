@@ -64,7 +64,7 @@ pub layer-bounds : LayerBounds
 layer-bounds =
     record {
       half-step = half-step;
-      step-small = step-small;
+      step-small = λ mark ws fin z. omega (arith, step-small mark ws fin z);
       exact-least = exact-least;
       within-span = within-span;
       smallest-exact = smallest-exact;

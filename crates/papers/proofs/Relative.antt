@@ -2,7 +2,7 @@
 use mathlib.Core.Path.{_≡_, ap, _∙_}
 use mathlib.Core.Logic.{_⊎_, inl, inr}
 use Prim.Native.Nat.{ℕ, suc, _+_, _-_, _*_, _/_, _%_, _^_, _≤_, _<_}
-use native.Mathlib.Nat.{div-add-mod', mod-lt, mul-le-mul-right, mul-lt-mul-of-pos-right, mul-pos, sub-le, le-div-iff-mul-le, mul-div-cancel, le-mul-of-pos-right, lt-of-mul-lt-mul-right, lt-of-lt-of-le, le-trans}
+use native.Mathlib.Nat.{div-add-mod', mod-lt, mul-le-mul-right, mul-lt-mul-of-pos-right, mul-pos, sub-le, le-div-iff-mul-le, mul-div-cancel, le-mul-of-pos-right, lt-of-mul-lt-mul-right, lt-of-lt-of-le}
 use native.Mathlib.Decide.{decLe, decLt, ℕ-discrete}
 use native.Mathlib.Omega.{arith}
 use lib.Pow.{pow-pos, pow-add}
@@ -18,7 +18,7 @@ use Rattle.papers.specs.Moved.{moved}
 use Rattle.papers.specs.Bounds.{RelativeBounds}
 use Rattle.papers.proofs.Apart.{moved-has, distance-self}
 use Rattle.papers.proofs.Steps.{size-below, shaved-size, round-step}
-use Rattle.papers.proofs.Bounds.{unit-bounds}
+use Rattle.papers.proofs.Bounds.{halfshave-half, unit-bounds}
 
 module _ (F : ℕ) where
   normal-size : (m : ℕ) → 2 ^ F ≤ m → 2 ^ F * spacing F m ≤ size F m
@@ -163,10 +163,9 @@ module _ (F X : ℕ) where
             (spacing-some F (magnitude F X w)))
             (normal-size F (magnitude F X w) n);
         halfshave-relative = λ k mark place w n.
-            le-trans
-            (half-part F k (moved F X (tail halfshave k) mark place w) (spacing F (magnitude F X w)) (unit-bounds F X .tail-moves halfshave k mark place w)
-            (unit-bounds F X .halfshave-moves k mark place w))
-            (normal-size F (magnitude F X w) n);
+            let l : moved F X (tail halfshave k) mark place w * 2 ^ (k + 1) ≤ 2 ^ F * spacing F (magnitude F X w) =
+            half-part F k (moved F X (tail halfshave k) mark place w) (spacing F (magnitude F X w)) (unit-bounds F X .tail-moves halfshave k mark place w) (halfshave-half F X k mark place w) in
+            omega (arith, l, normal-size F (magnitude F X w) n, some-size F (magnitude F X w) n);
         round-relative = λ k mark place w n.
             moved-has F X (round k) tt place w mark (λ d. d * 2 ^ (k + 1) < size F (magnitude F X w)) (omega (arith, some-size F (magnitude F X w) n))
             (λ f. round-relative k place (magnitude F X w) n f);

@@ -18,7 +18,7 @@ use Rattle.meaning.proofs.Rounding.{cap, round-below, absolute-below, round-wit
 use Rattle.meaning.proofs.Absolute.{absolute-exact}
 use Rattle.meaning.proofs.Accepted.{Ready}
 use Rattle.meaning.proofs.OneReading.{trimmed-result}
-use Rattle.papers.specs.Repetition.{Repetition, Rounder}
+use Rattle.papers.specs.Repetition.{NoDigits, Repetition, Rounder}
 use Rattle.papers.proofs.Apart.{trimmed-has, result-is, result-magnitude, result-below, result-sign}
 use Rattle.papers.proofs.TailValues.{shave-is, set-some, shave-same, set-same, set-kept, halfshave-same, halfshave-kept, set-zero, groom-even, groom-odd, halfshave-zero}
 
@@ -137,19 +137,22 @@ module _ (F X : ℕ) where
 
   -- ---- a second call with the same setting
 
-  again : (x : Method) → ((n : ℕ) → x ≢ digits n) → (place m : ℕ) → m < infinity F X → newMagnitude F X x place (newMagnitude F X x place m) ≡ newMagnitude F X x place m
+  no-digits : (n : ℕ) → NoDigits (digits n) → ⊥
+  no-digits n h = h n (ap digits (omega arith))
+
+  again : (x : Method) → NoDigits x → (place m : ℕ) → m < infinity F X → newMagnitude F X x place (newMagnitude F X x place m) ≡ newMagnitude F X x place m
   again (tail c k) h place m f = rounder c k k place m (le-refl k)
   again (round k) h place m f = round-finer k k place m (le-refl k) f
   again (absolute q) h place m f = absolute-finer q q place m (le-refl q) f
-  again (digits n) h place m f = absurd (h n refl)
+  again (digits n) h place m f = absurd (no-digits n h)
 
-  ready : (x : Method) → ((n : ℕ) → x ≢ digits n) → Ready x
+  ready : (x : Method) → NoDigits x → Ready x
   ready (tail c k) h = tt
   ready (round k) h = tt
   ready (absolute q) h = tt
-  ready (digits n) h = absurd (h n refl)
+  ready (digits n) h = absurd (no-digits n h)
 
-  module _ (x : Method) (h : (n : ℕ) → x ≢ digits n) (place w : ℕ) where
+  module _ (x : Method) (h : NoDigits x) (place w : ℕ) where
     -- the result is its own result
     result-again : magnitude F X w < infinity F X → result F X x place (result F X x place w) ≡ result F X x place w
     result-again f =
@@ -163,7 +166,7 @@ module _ (F X : ℕ) where
         (λ p f s.
         trimmed-result F X x mark place (result F X x place w) s (result-below F X x (ready x h) place w f) (λ e. s (sym (result-again f) ∙ e)) ∙ result-again f)
 
-  array-again : (x : Method) → ((n : ℕ) → x ≢ digits n) → (mark place : ℕ) (ws : List ℕ) → trimFrom F X x mark place (trimFrom F X x mark place ws) ≡ trimFrom F X x mark place ws
+  array-again : (x : Method) → NoDigits x → (mark place : ℕ) (ws : List ℕ) → trimFrom F X x mark place (trimFrom F X x mark place ws) ≡ trimFrom F X x mark place ws
   unfolding trimFrom placeAfter
   array-again x h mark place [] = refl
   array-again x h mark place (w ∷ ws) = ap₂ (λ (v : ℕ) (vs : List ℕ). v ∷ vs) (reading-again x h place w mark) (array-again x h mark (suc place) ws)

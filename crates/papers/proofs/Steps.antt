@@ -6,7 +6,7 @@ use Prim.Native.Nat.{ℕ, zero, suc, _+_, _-_, _*_, _/_, _%_, _^_, _≤_, _<_}
 use native.Mathlib.Nat.{mul-lt-mul-of-pos-right, div-add-mod', mod-lt, mul-le-mul-right, sub-le, pow-suc, mul-div-cancel, div-mul-le-self, add-mul, div-eq-of-lt-le}
 use native.Mathlib.Decide.{decLe, decLt, ℕ-discrete}
 use native.Mathlib.Omega.{arith}
-use borrow.Author.Tests.{leb-false, ltb-false}
+use borrow.Author.Tests.{ltb-false}
 use lib.Pow.{pow-pos, suc-ones}
 use Rattle.meaning.specs.Readings.{size, spacing, spacingExp, infinity, largest, distance}
 use Rattle.meaning.specs.Methods.{TailMethod, shave, halfshave, round, absolute, nearest, shaved, tailChanged, rounded, multiple, clips, absoluteSize, newMagnitude}
@@ -147,10 +147,9 @@ module _ (F : ℕ) where
 
 module _ (F X : ℕ) where
   -- method 4
-  pub round-half : (k place m : ℕ) → clips F X (round k) m ≡ false
+  pub round-half : (k place m : ℕ) → rounded (F - k) m < infinity F X
       → 2 * distance (size F m) (size F (newMagnitude F X (round k) place m)) ≤ 2 ^ (F - k) * spacing F m
-  unfolding clips
-  round-half k place m c = rw (round-within F X k place m (leb-false (infinity F X) (rounded (F - k) m) c)) (round-step F (F - k) m (sub-le F k) .0)
+  round-half k place m l = rw (round-within F X k place m l) (round-step F (F - k) m (sub-le F k) .0)
 
   pub round-whole : (k place m : ℕ) → distance (size F m) (size F (newMagnitude F X (round k) place m)) + spacing F m ≤ 2 ^ (F - k) * spacing F m
   unfolding tailChanged

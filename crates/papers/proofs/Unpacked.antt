@@ -21,10 +21,10 @@ use Rattle.meaning.proofs.Patterns.{finite-below}
 use Rattle.meaning.proofs.Packing.{code-present, layer-least, layer-codes, singles-held}
 use Rattle.meaning.proofs.Packed.{largest-mono, magnitude-bound}
 use Rattle.papers.specs.LayerBounds.{layer, AllFinite}
-use Rattle.papers.specs.Unpacked.{Unpacked, HeldIn53, double, meaningSize, apart}
+use Rattle.papers.specs.Unpacked.{Unpacked, double, meaningSize, apart}
 use Rattle.papers.proofs.Gaps.{gap}
 use Rattle.papers.proofs.References.{reference-finite}
-use Rattle.papers.proofs.Doubles.{Few, n, whole, held-bits, double-sign, within, by-bits, sent, half-exact, half-tiny}
+use Rattle.papers.proofs.Doubles.{Few, n, whole, zero-bits, step-bits, held-bits, double-sign, within, by-bits, sent, half-exact, half-tiny}
 use Rattle.papers.proofs.Distances.{through-step}
 
 packed-held : (l : Layer) (c w : ℕ) → finite 23 8 (l .reference) ≡ true → finite 23 8 w ≡ true → c < 65535 → position 23 8 (l .reference) < position 23 8 w
@@ -65,7 +65,7 @@ half-kept l (suc k) v f e h g d = go (decLt (position 23 8 (l .reference)) (posi
     go : Dec (position 23 8 (l .reference) < position 23 8 v) → Dec (l .exponent ≤ s + 37) → 2 * apart v (double l (suc k)) ≤ 2 ^ l .exponent * 2 ^ 925
     go (yes o) (yes a) =
         half-exact l (suc k) f e h v d
-        (by-bits l (suc k) f e h (held-bits l (suc k) f e h (inr (omega arith, omega (arith, packed-held l (suc k) v f g h o d)))))
+        (by-bits l (suc k) f e h (step-bits l (suc k) f e h a (omega (arith, packed-held l (suc k) v f g h o d))))
     go (yes o) (no a) = half-tiny l (suc k) f e h v d (omega arith) (omega arith)
     -- a step lies between R and the meaning
     go (no o) a = absurd (omega (arith, mul-le-mul-right {m = 1} {n = suc k} (2 ^ l .exponent) (omega arith), pow-pos (l .exponent)))
@@ -113,9 +113,6 @@ module _ (mark : ℕ) (ws : List ℕ) (fin : AllFinite mark ws) (i : ℕ) (h : i
       R : finite 23 8 (L .reference) ≡ true
       R = reference-finite mark ws fin
 
-      all-bits : HeldIn53 L → size 52 (magnitude 52 11 (double L C)) ≡ meaningSize L C
-      all-bits y = by-bits L C R few-steps coded (held-bits L C R few-steps coded y)
-
       none : position 23 8 W ≤ position 23 8 (L .reference) → C ≡ 0
       none k =
           let d : position 23 8 W - position 23 8 (L .reference) ≡ 0 * 2 ^ L .exponent = omega arith in
@@ -124,8 +121,10 @@ module _ (mark : ℕ) (ws : List ℕ) (fin : AllFinite mark ws) (i : ℕ) (h : i
       go : Dec (position 23 8 (L .reference) < position 23 8 W) → (magnitude 23 8 (L .reference) ≡ 0) ⊎ (L .exponent ≤ spacingExp 23 (magnitude 23 8 (L .reference)) + 37)
           → size 52 (magnitude 52 11 (double L C)) ≡ meaningSize L C
       go (no o) y = rw (none (omega arith)) (reference-exact L R few-steps)
-      go (yes o) (inl y) = all-bits (inl y)
-      go (yes o) (inr y) = all-bits (inr (omega arith, omega (arith, packed-held L C W R (fin i h p) coded o (layer-codes 23 8 16 263 mark ws held i h .half-step p))))
+      go (yes o) (inl y) = by-bits L C R few-steps coded (zero-bits L C R few-steps coded y)
+      go (yes o) (inr y) =
+          by-bits L C R few-steps coded
+          (step-bits L C R few-steps coded y (omega (arith, packed-held L C W R (fin i h p) coded o (layer-codes 23 8 16 263 mark ws held i h .half-step p))))
 
 is-unpacked : (mark : ℕ) (l : Layer) (c : ℕ) → c < 65535 → unpackedCode 16 mark l c ≡ double l c
 unfolding unpackedCode missingCode

@@ -7,11 +7,15 @@ use Prim.Native.Nat.{ℕ, _≤_, _<_}
 use Rattle.meaning.specs.Readings.{infinity}
 use Rattle.meaning.specs.Methods.{Method, TailMethod, tail, halfshave, round, absolute, digits, newMagnitude, trimmed, trimFrom}
 
+-- every method but digits
+abbrev pub NoDigits : Method → Type 0
+NoDigits x = (n : ℕ) → x ≢ digits n
+
 pub record Repetition (F X : ℕ) : Type 0 where
   -- one reading
-  pub reading-stays : (x : Method) → ((n : ℕ) → x ≢ digits n) → (mark place w : ℕ) → trimmed F X x mark place (trimmed F X x mark place w) ≡ trimmed F X x mark place w
+  pub reading-stays : (x : Method) → NoDigits x → (mark place w : ℕ) → trimmed F X x mark place (trimmed F X x mark place w) ≡ trimmed F X x mark place w
   -- an array, groom's places included
-  pub array-stays : (x : Method) → ((n : ℕ) → x ≢ digits n) → (mark place : ℕ) (ws : List ℕ)
+  pub array-stays : (x : Method) → NoDigits x → (mark place : ℕ) (ws : List ℕ)
       → trimFrom F X x mark place (trimFrom F X x mark place ws) ≡ trimFrom F X x mark place ws
 
 -- 001, section 4.1: trimmed data can be made rounder, not sharper. Of magnitudes, so of readings for which neither result is the mark.
