@@ -49,6 +49,7 @@ or-first false b e f = absurd (true≢false (sym e ∙ f))
 
 pub record Asked (mark L : ℕ) (vs : List ℕ) : Type 0 where
   pub some : 1 ≤ L
+  pub most : L ≤ 65536
   pub whole : length vs % L ≡ 0
   pub packable : Packable 23 8 mark vs
 
@@ -61,6 +62,7 @@ asked mark L vs c r e h =
     let q6 = ask-yes (all (λ w. finite 23 8 w || eqb w mark) vs) 6 _ tt (q5 .1) in
     record {
       some = leb-true 1 L (and-first (leb 1 L) (leb L 65536) (q3 .0));
+      most = leb-true L 65536 (and-second (leb 1 L) (leb L 65536) (q3 .0));
       whole = eqb-true (length vs % L) 0 (q4 .0);
       packable = λ i l p.
           finite-below 23 8 (getD vs i 0)
@@ -84,9 +86,9 @@ module _ (mark L : ℕ) (vs codes references : List ℕ) (exponents : List ℤ) 
   abbrev packed : ℕ → Layer
   packed j = layerOf 23 8 16 263 mark (take L (drop (j * L) vs))
 
-  q : Asked mark L vs
+  pub all-asked : Asked mark L vs
   unfolding pack
-  q = asked mark L vs (length codes) (length references) (length exponents) yes-answer
+  all-asked = asked mark L vs (length codes) (length references) (length exponents) yes-answer
 
   codes-are : left .codes ≡ packedCodes 23 8 16 263 mark L vs
   unfolding pack leaving
@@ -100,8 +102,8 @@ module _ (mark L : ℕ) (vs codes references : List ℕ) (exponents : List ℤ) 
   unfolding pack leaving
   exponents-are = rw yes-answer refl
 
-  in-layers : length vs / L * L ≡ length vs
-  in-layers = omega (arith, div-add-mod' (length vs) L, q .whole)
+  pub in-layers : length vs / L * L ≡ length vs
+  in-layers = omega (arith, div-add-mod' (length vs) L, all-asked .whole)
 
   module _ (j : ℕ) (h : j < length vs / L) where
     -- one thing for each layer, found at its place
@@ -111,11 +113,11 @@ module _ (mark L : ℕ) (vs codes references : List ℕ) (exponents : List ℤ) 
         ap (λ (l : List _). getD l j z) (map-map f (layerOf 23 8 16 263 mark) (layers L vs))
         ∙ map-runs L (λ part. f (layerOf 23 8 16 263 mark part)) z (length vs / L) j vs h
 
-    stored-at : storedLayer (getD (left .references) j 0) (getD (left .exponents) j (pos 0)) ≡ packed j
+    pub stored-at : storedLayer (getD (left .references) j 0) (getD (left .exponents) j (pos 0)) ≡ packed j
     stored-at =
         rw (references-are, exponents-are, layer-at (λ l. l .reference) 0, layer-at storedExponent (pos 0)) (stored-layer (packed j))
 
-    room : j * L + L ≤ length vs
+    pub room : j * L + L ≤ length vs
     room = omega (arith, in-layers, mul-le-mul-right L h)
 
     part-length : length (part j) ≡ L
@@ -124,10 +126,13 @@ module _ (mark L : ℕ) (vs codes references : List ℕ) (exponents : List ℤ) 
     part-at : (i : ℕ) → i < L → getD (part j) i 0 ≡ getD vs (j * L + i) 0
     part-at i k = getD-take L (drop (j * L) vs) i 0 k ∙ getD-drop (j * L) vs i 0
 
-    part-held : holds 16 (span 23 8 (summary 23 8 mark (part j))) 263 ≡ true
-    part-held = singles-held mark (part j) (λ i k p.
+    pub part-packable : Packable 23 8 mark (take L (drop (j * L) vs))
+    part-packable i k p =
         let l : i < L = omega (arith, part-length) in
-        rw (part-at i l) (q .packable (j * L + i) (omega (arith, room)) (λ e. p (part-at i l ∙ e))))
+        rw (part-at i l) (all-asked .packable (j * L + i) (omega (arith, room)) (λ e. p (part-at i l ∙ e)))
+
+    part-held : holds 16 (span 23 8 (summary 23 8 mark (part j))) 263 ≡ true
+    part-held = singles-held mark (part j) part-packable
 
     code-at : (i : ℕ) → i < L → getD (left .codes) (j * L + i) 0 ≡ code 23 8 16 mark (packed j) (getD (part j) i 0)
     unfolding packedCodes layers
@@ -138,7 +143,7 @@ module _ (mark L : ℕ) (vs codes references : List ℕ) (exponents : List ℤ) 
         ∙ map-at (code 23 8 16 mark (packed j)) 0 0 (part j) i (omega (arith, part-length))
 
     -- what a place of the layer got
-    coded-at : (i : ℕ) → i < L → CodedIn 23 8 16 mark (packed j) (getD vs (j * L + i) 0) (getD (left .codes) (j * L + i) 0)
+    pub coded-at : (i : ℕ) → i < L → CodedIn 23 8 16 mark (layerOf 23 8 16 263 mark (take L (drop (j * L) vs))) (getD vs (j * L + i) 0) (getD (left .codes) (j * L + i) 0)
     coded-at i k =
         rw (code-at i k, ← part-at i k) (layer-codes 23 8 16 263 mark (part j) part-held i (omega (arith, part-length)))
 
@@ -203,7 +208,7 @@ magnitude-bound v p g f h =
 -- ---- one place, from the original to its code
 
 module _ (mark : ℕ) (xs : List Method) (l : Layer) (w v c : ℕ) (k : Kept 23 8 mark xs w v) (r : CodedIn 23 8 16 mark l v c) (f : v ≢ mark → magnitude 23 8 v < infinity 23 8) where
-  trimmed-one : w ≢ mark → trimmable 23 8 mark w ≡ true
+  pub trimmed-one : w ≢ mark → trimmable 23 8 mark w ≡ true
   trimmed-one p = go (decLt (magnitude 23 8 w) (infinity 23 8)) (trimmable 23 8 mark w) refl
     where
       go : Dec (magnitude 23 8 w < infinity 23 8) → (b : Bool) → trimmable 23 8 mark w ≡ b → trimmable 23 8 mark w ≡ true
@@ -211,7 +216,7 @@ module _ (mark : ℕ) (xs : List Method) (l : Layer) (w v c : ℕ) (k : Kept 23 
       go (no h) true e = e
       go (no h) false e = absurd (h (rw (k .others-stay e) at (f (λ m. p (k .mark-stays .0 m)))))
 
-  still-here : w ≢ mark → v ≢ mark
+  pub still-here : w ≢ mark → v ≢ mark
   still-here p m = p (k .mark-stays .0 m)
 
   -- a unit that the trimmed reading's distance keeps to, and half a step
@@ -276,7 +281,7 @@ module _ (cs : List Call) (mark : ℕ) (ws : List ℕ) (some : 0 < length (accep
           ∙ runs-length L (length vs / L) vs ∙ ap (λ (x : ℕ). x / L) same
 
       a : Asked mark L vs
-      a = q mark L vs codes references exponents yes-answer
+      a = all-asked mark L vs codes references exponents yes-answer
 
       p : AfterPack
       p = pack mark L vs codes references exponents

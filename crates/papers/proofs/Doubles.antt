@@ -14,7 +14,7 @@ use Rattle.meaning.specs.Readings.{size, spacing, spacingExp, sign, magnitude, 
 use Rattle.meaning.specs.Layers.{Layer, codeMeaning, nearestMagnitude, nearestDouble}
 use Rattle.meaning.proofs.Powers.{pow-split}
 use Rattle.meaning.proofs.Sizes.{Form, form, size-at, size-form, size-small}
-use Rattle.meaning.proofs.Patterns.{magnitude-pattern, sign-pattern, finite-below, size-below, position-plus, position-minus}
+use Rattle.meaning.proofs.Patterns.{magnitude-pattern, sign-pattern, finite-below, below-finite, size-below, position-plus, position-minus}
 use Rattle.papers.specs.Unpacked.{HeldIn53, double, meaningSize, apart}
 use Rattle.papers.proofs.Apart.{distance-self}
 use Rattle.papers.proofs.Distances.{apart-up, apart-down, scaled, distance-le, through-less, through-exact, landed, same-up, same-down}
@@ -151,6 +151,9 @@ module _ (l : Layer) (k : ℕ) (f : finite 23 8 (l .reference) ≡ true) (e : l 
 
   double-magnitude : magnitude 52 11 (double l k) ≡ v 52 11 (n * 2 ^ 925) room
   double-magnitude = ap (magnitude 52 11) double-is ∙ magnitude-pattern 52 11 side (v 52 11 (n * 2 ^ 925) room) (v-finite 52 11 (n * 2 ^ 925) room)
+
+  pub double-finite : finite 52 11 (double l k) ≡ true
+  double-finite = below-finite 52 11 (double l k) (rw double-magnitude (v-finite 52 11 (n * 2 ^ 925) room))
 
   pub double-sign : sign 52 11 (double l k) ≡ side
   double-sign = ap (sign 52 11) double-is ∙ sign-pattern 52 11 side (v 52 11 (n * 2 ^ 925) room) (v-finite 52 11 (n * 2 ^ 925) room)

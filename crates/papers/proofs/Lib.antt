@@ -15,6 +15,7 @@ pub mod Gaps
 pub mod References
 pub mod Doubles
 pub mod Unpacked
+pub mod Sent
 pub mod Listings
 pub mod Unbiased
 pub mod Cases

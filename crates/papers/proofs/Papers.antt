@@ -9,6 +9,7 @@ use Rattle.papers.proofs.Halfshaving.{halfshaving}
 use Rattle.papers.proofs.Listings.{listings}
 use Rattle.papers.proofs.LayerBounds.{layer-bounds}
 use Rattle.papers.proofs.Unpacked.{unpacked}
+use Rattle.papers.proofs.Sent.{sent-unpacked}
 use Rattle.papers.proofs.Unbiased.{unbiased}
 use Rattle.papers.proofs.Cases.{attained, left-cases, pi-tables, subnormal, printed, decimal-beyond, digits-again, digits-left, halfshave-sharper, halfshave-groomed, listings-beyond, layer-top, double-beyond}
 use Rattle.papers.proofs.CasesFar.{far-cases}
@@ -32,6 +33,7 @@ papers =
       keep-bits = keep-bits;
       layers = layer-bounds;
       unpacked = unpacked;
+      sent-unpacked = sent-unpacked;
       pi-tables = pi-tables;
       attained = attained;
       left-cases = left-cases;

@@ -53,7 +53,7 @@ reference-exact l f e = by-bits l 0 f e (omega arith) (go (form 23 (magnitude 23
 
 -- ---- from a single, by way of what was packed
 
-half-kept : (l : Layer) (c v : ℕ) → finite 23 8 (l .reference) ≡ true → l .exponent ≤ 263 → c < 65535 → finite 23 8 v ≡ true
+pub half-kept : (l : Layer) (c v : ℕ) → finite 23 8 (l .reference) ≡ true → l .exponent ≤ 263 → c < 65535 → finite 23 8 v ≡ true
     → 2 * distance (position 23 8 v) (codeMeaning 23 8 l c) ≤ 2 ^ l .exponent → 2 * apart v (double l c) ≤ 2 ^ l .exponent * 2 ^ 925
 unfolding codeMeaning distance
 half-kept l zero v f e h g d = half-exact l 0 f e h v d (reference-exact l f e)
@@ -72,7 +72,7 @@ half-kept l (suc k) v f e h g d = go (decLt (position 23 8 (l .reference)) (posi
 
 module _ (mark : ℕ) (xs : List Method) (w v : ℕ) (l : Layer) (c : ℕ) (f : finite 23 8 (l .reference) ≡ true) (e : l .exponent ≤ 263) (h : c < 65535)
     (o : trimmable 23 8 mark w ≡ true) (kept : Kept 23 8 mark xs w v) (d : 2 * distance (position 23 8 v) (codeMeaning 23 8 l c) ≤ 2 ^ l .exponent) where
-  sent-by : (t : ℕ) → 2 * distance (position 23 8 w) (position 23 8 v) + 2 ^ l .exponent < t → 2 * apart w (double l c) < t * 2 ^ 925
+  pub sent-by : (t : ℕ) → 2 * distance (position 23 8 w) (position 23 8 v) + 2 ^ l .exponent < t → 2 * apart w (double l c) < t * 2 ^ 925
   sent-by t k =
       through-step (position 23 8 w) (position 23 8 v) (position 52 11 (double l c) + origin 23 8 * 2 ^ 925) (origin 52 11) (2 ^ 925) (2 ^ l .exponent) t (pow-pos 925) k
       (half-kept l c v f e h (kept .finite-stays o) d)
@@ -126,7 +126,7 @@ module _ (mark : ℕ) (ws : List ℕ) (fin : AllFinite mark ws) (i : ℕ) (h : i
           by-bits L C R few-steps coded
           (step-bits L C R few-steps coded y (omega (arith, packed-held L C W R (fin i h p) coded o (layer-codes 23 8 16 263 mark ws held i h .half-step p))))
 
-is-unpacked : (mark : ℕ) (l : Layer) (c : ℕ) → c < 65535 → unpackedCode 16 mark l c ≡ double l c
+pub is-unpacked : (mark : ℕ) (l : Layer) (c : ℕ) → c < 65535 → unpackedCode 16 mark l c ≡ double l c
 unfolding unpackedCode missingCode
 is-unpacked mark l c h = rw (ne-eqb c 65535 (λ e. absurd (omega arith))) refl
 

@@ -7,7 +7,7 @@ use Rattle.papers.specs.Repetition.{Repetition, Rounder}
 use Rattle.papers.specs.Halfshaving.{Halfshaving}
 use Rattle.papers.specs.Listings.{Listings}
 use Rattle.papers.specs.LayerBounds.{LayerBounds}
-use Rattle.papers.specs.Unpacked.{Unpacked}
+use Rattle.papers.specs.Unpacked.{Unpacked, SentUnpacked}
 use Rattle.papers.specs.Unbiased.{Unbiased}
 use Rattle.papers.specs.Cases.{Attained, LeftCases, PiTables, Subnormal, Printed, DecimalBeyond, DigitsAgain, DigitsLeft, HalfshaveSharper, HalfshaveGroomed, ListingsBeyond, LayerTop, DoubleBeyond}
 use Rattle.papers.specs.CasesFar.{FarCases}
@@ -29,6 +29,7 @@ pub record Papers : Type 0 where
   pub keep-bits : KeepBits
   pub layers : LayerBounds
   pub unpacked : Unpacked
+  pub sent-unpacked : SentUnpacked
   pub pi-tables : PiTables
   -- bounds that are attained, and claims that fail as printed
   pub attained : Attained

@@ -1,17 +1,19 @@
 -- Unpacking rounds once, R plus code times the step to the nearest double: how far that double lies from the exact meaning of the code, where it is the exact meaning, and
 -- how far it lies from the reading that was sent.
 use mathlib.Core.Path.{_≡_}
-use mathlib.Core.Logic.{_⊎_, _≢_}
+use mathlib.Core.Logic.{_⊎_, _↔_, _≢_}
 use mathlib.Core.Bool.{true, cond}
 use mathlib.Core.List.{List}
 use Prim.Native.Nat.{ℕ, _+_, _*_, _/_, _^_, _≤_, _<_}
 use lib.Dec.{leb}
+use lib.IntN.{ℤ, pos}
 use lib.ListN.{length, getD}
 use Rattle.meaning.specs.Readings.{size, spacing, spacingExp, sign, magnitude, finite, magnitudeOf, origin, position, distance}
 use Rattle.meaning.specs.Methods.{Method, trimmable}
 use Rattle.meaning.specs.Layers.{Layer, code, codeMeaning, nearestDouble, unpackedCode}
-use Rattle.meaning.specs.Calls.{largestUnit}
-use Rattle.meaning.specs.Claim.{Kept, Coded}
+use Rattle.meaning.specs.Questions.{accepted, isNan}
+use Rattle.meaning.specs.Calls.{Call, AfterPack, AfterUnpack, inTurn, acceptedCalls, largestUnit, pack, unpack, storedLayer}
+use Rattle.meaning.specs.Claim.{oneKind, Kept, Coded}
 use Rattle.papers.specs.LayerBounds.{layer, AllFinite}
 
 -- what a code of a layer unpacks to, and the size of its exact meaning, in least spacings of doubles: one of singles is 2 ^ 925 of them
@@ -62,7 +64,7 @@ pub record Unpacked : Type 0 where
   pub packed-half : (mark : ℕ) (ws : List ℕ) → AllFinite mark ws → (i : ℕ) → i < length ws → getD ws i 0 ≢ mark
       → let c = code 23 8 16 mark (layer mark ws) (getD ws i 0) in 2 * apart (getD ws i 0) (double (layer mark ws) c) ≤ 2 ^ layer mark ws .exponent * 2 ^ 925
   -- And demand 3's bound holds of the doubles as it stands: w is the single that was sent, xs are the accepted calls, and v is what they left (`Kept`) and was packed, with a
-  -- code within half a step of it (`half-step` in LayerBounds.antt).
+  -- code within half a step of it (`half-step` in LayerBounds.antt). `SentUnpacked`, below, has this of whole arrays.
   pub sent-kept : (mark : ℕ) (xs : List Method) (w v : ℕ) (l : Layer) (c : ℕ) → finite 23 8 (l .reference) ≡ true → l .exponent ≤ 263 → c < 65535
       → trimmable 23 8 mark w ≡ true → Kept 23 8 mark xs w v
       → 2 * distance (position 23 8 v) (codeMeaning 23 8 l c) ≤ 2 ^ l .exponent → 2 * apart w (double l c) < (2 * largestUnit 23 xs (magnitude 23 8 w) + 2 ^ l .exponent) * 2 ^ 925
@@ -79,3 +81,37 @@ pub record Unpacked : Type 0 where
       → 2 * apart w (double l c)
       < (2 * largestUnit 23 xs (magnitudeOf 23 8 (distance (codeMeaning 23 8 l c) (origin 23 8) + 2 ^ l .exponent / 2)) + 2 ^ l .exponent) * 2 ^ 925
       + spacing 52 (magnitude 52 11 (double l c))
+
+-- ---- from what was sent to the doubles, by way of every call
+
+-- What is promised of one place: w is the single that was sent, xs are the accepted trims, l and c are the layer and the code that packing left, and v is the double.
+pub record SentDouble (mark doubleMark : ℕ) (xs : List Method) (w : ℕ) (l : Layer) (c v : ℕ) : Type 0 where
+  -- the double is the double mark exactly where the reading began missing
+  pub missing-double : (v ≡ doubleMark) ↔ (w ≡ mark)
+  -- elsewhere the single and the double are finite
+  pub both-finite : w ≢ mark → (finite 23 8 w ≡ true) × (finite 52 11 v ≡ true)
+  -- and lie less than the unit plus half the layer's step apart: the bound that demand 3 has of the code's exact meaning (`near` in `Coded`)
+  pub near : w ≢ mark → 2 * apart w v < (2 * largestUnit 23 xs (magnitude 23 8 w) + 2 ^ l .exponent) * 2 ^ 925
+  -- the same with the unit that needs nothing of w (`near-left` in `Coded`)
+  pub near-left : w ≢ mark
+      → 2 * apart w v < (2 * largestUnit 23 xs (magnitudeOf 23 8 (distance (codeMeaning 23 8 l c) (origin 23 8) + 2 ^ l .exponent / 2)) + 2 ^ l .exponent) * 2 ^ 925
+  -- and with the unit at the size of the double plus half a step, so that the doubles and the step are enough
+  pub near-double : w ≢ mark
+      → 2 * apart w v < (2 * largestUnit 23 xs (magnitudeOf 23 8 ((size 52 (magnitude 52 11 v) + 2 ^ l .exponent * 2 ^ 924) / 2 ^ 925)) + 2 ^ l .exponent) * 2 ^ 925
+
+-- of the whole array: p is what the packing left, and u what the unpacking of that answers and leaves
+pub record UnpackClaim (cs : List Call) (mark : ℕ) (ws : List ℕ) (L : ℕ) (p : AfterPack) (doubleMark : ℕ) (u : AfterUnpack) : Type 0 where
+  pub is-accepted : u .answer ≡ accepted tt
+  pub doubles-long : length (u .readings) ≡ length ws
+  -- place i is in layer i / L
+  pub each-double : (i : ℕ) → i < length ws
+      → SentDouble mark doubleMark (acceptedCalls 23 8 cs) (getD ws i 0) (storedLayer (getD (p .references) (i / L) 0) (getD (p .exponents) (i / L) (pos 0))) (getD (p .codes) i 0)
+      (getD (u .readings) i 0)
+
+-- Singles are trimmed by a list of calls as in demand 3, packed, and unpacked with the same L, any NaN as double mark and a lent array of the right length.
+pub record SentUnpacked : Type 0 where
+  pub sent-unpacked : (cs : List Call) (mark : ℕ) (ws : List ℕ) → 0 < length (acceptedCalls 23 8 cs) → oneKind (acceptedCalls 23 8 cs) ≡ true
+      → (L : ℕ) (codes references : List ℕ) (exponents : List ℤ)
+      → let p = pack mark L (inTurn 23 8 cs mark ws) codes references exponents in
+      p .answer ≡ accepted tt → (doubleMark : ℕ) (doubles : List ℕ) → isNan 52 11 doubleMark ≡ true → length doubles ≡ length ws
+      → UnpackClaim cs mark ws L p doubleMark (unpack doubleMark L (p .codes) (p .references) (p .exponents) doubles)
