@@ -475,7 +475,8 @@ def all_cases():
     """As nobody where that can be, since root may write to a read-only folder."""
     process = start_full_disks()
     if os.getuid() == 0:
-        os.chown(room, NOBODY, NOBODY)
+        for path in [room, beside]:
+            os.chown(path, NOBODY, NOBODY)
         os.setgroups([])
         os.setgid(NOBODY)
         os.setuid(NOBODY)
