@@ -320,7 +320,7 @@ case $HOW in
     fails* | late) exit 1 ;;
     killed*) kill -9 $TOOL_ID; exit 1 ;;
     changes) echo x >>t ;;
-    waits*) echo >"$COUNT.here"; while [ ! -e "$COUNT.go" ]; do sleep 0.02; done ;;
+    waits*) echo >"$COUNT.here"; turns=0; while [ ! -e "$COUNT.go" ] && [ $turns -lt 2000 ]; do sleep 0.02; turns=$((turns + 1)); done ;;
     *) kill -s $HOW $TOOL_ID ;;
 esac
 [ -z "${status-}" ] || exit $status
