@@ -1,6 +1,5 @@
 // The words of a reason, written to standard error piece by piece.
 ghost use Prim.Native.Nat.{_≤_};
-ghost use lib.ListN.{length};
 use crate::faults::Fault;
 use crate::faults::Reason;
 use crate::faults::until;
