@@ -5,9 +5,9 @@
     how_far.py FIGURE FILE.jobs            the jobs that trim-file kept
     how_far.py --packed R E CODE JOB ..    a code with its layer's reference R and step exponent E
 
-The figure is the one that is left after the jobs: a decimal number, or a pattern such as 438FC000. It is a single, and with --double a double; of decimals the nearest one is
-taken. A job is a method and its setting; a mark may follow, as in a jobs file. All jobs that the figure went through have to be named, in any order. What is printed rests on
-what is proved: docs/PROMISES.md.
+The figure is the one that is left after the jobs, in full: its pattern, such as 438FC000, or all its decimals. It is a single, and with --double a double. A job is a method and
+its setting; a mark may follow, as in a jobs file. All jobs that the figure went through have to be named, in any order. What is printed rests on what is proved:
+docs/PROMISES.md.
 """
 import re
 import struct
@@ -18,9 +18,10 @@ from pathlib import Path
 
 TAILS = ["shave", "set", "groom", "halfshave"]
 METHODS = TAILS + ["round", "absolute", "digits"]
-# What a width has: bits of the fraction, the exponent of the smallest normal number, that of the least spacing, the largest exponent, its format for struct, the most digits
-SINGLE = (23, -126, -149, 127, ">f", 7)
-DOUBLE = (52, -1022, -1074, 1023, ">d", 15)
+# What a width has: bits of the fraction, the exponent of the smallest normal number, that of the least spacing, the largest exponent, its format for struct, the most digits, its
+# name
+SINGLE = (23, -126, -149, 127, ">f", 7, "single")
+DOUBLE = (52, -1022, -1074, 1023, ">d", 15, "double")
 
 
 class Refused(Exception):
@@ -106,25 +107,35 @@ def packed_distance(jobs, reference, exponent, code):
     return meaning, Fraction(2) ** unit_exponent(SINGLE, jobs, abs(meaning) + half) + half
 
 
-def is_pattern(width, text):
+def pattern_of(width, text):
+    """A figure's pattern. It is given as that, or by its decimals: all of them, since a figure that was cut to be shown is another figure."""
     digits = struct.calcsize(width[4]) * 2
-    return bool(re.fullmatch(rf"0x[0-9A-Fa-f]{{{digits}}}|[0-9A-F]{{{digits}}}", text))
+    if re.fullmatch(rf"0x[0-9A-Fa-f]{{{digits}}}", text):
+        return text[2:].upper()
+    number = re.fullmatch(r"[+-]?(\d+\.?\d*|\.\d+)([eE][+-]?(\d+))?", text)
+    if re.fullmatch(rf"[0-9A-Fa-f]{{{digits}}}", text):
+        if number:
+            raise Refused(f"{text} may be a pattern or a number: write 0x{text}, or the number with a decimal point")
+        return text.upper()
+    if not number or len(number[3] or "") > 4:
+        raise Refused(f"{text}: not a number, nor a pattern of {digits} digits")
+    try:
+        pattern = struct.pack(width[4], float(text))
+    except OverflowError:
+        pattern = None
+    if pattern is None or float(text) in (float("inf"), float("-inf")):
+        raise Refused(f"{text} is larger than any {width[6]}")
+    if Fraction(text) != Fraction(struct.unpack(width[4], pattern)[0]):
+        near = decimals(Fraction(struct.unpack(width[4], pattern)[0]), ROUND_FLOOR)
+        raise Refused(f"{text} is no {width[6]}, so it isn't a figure in full (near it lies {near}, {pattern.hex().upper()}): give all decimals, or the pattern")
+    return pattern.hex().upper()
 
 
-def value_of(width, text):
-    """A figure's exact value, by its pattern or by its decimals: then the nearest of the width."""
-    digits = struct.calcsize(width[4]) * 2
-    if is_pattern(width, text):
-        if re.fullmatch(r"\d+", text):
-            raise Refused(f"{text} may be a pattern or a number: write 0x{text} or {text}.0")
-        value = struct.unpack(width[4], bytes.fromhex(text.removeprefix("0x")))[0]
-    else:
-        try:
-            value = struct.unpack(width[4], struct.pack(width[4], float(text)))[0]
-        except (ValueError, OverflowError):
-            raise Refused(f"{text}: not a finite number, nor a pattern of {digits} digits 0 to 9 and A to F")
+def value_of(width, pattern):
+    """The exact value that a pattern stands for."""
+    value = struct.unpack(width[4], bytes.fromhex(pattern))[0]
     if value != value or value in (float("inf"), float("-inf")):
-        raise Refused(f"{text} is no finite figure: trimming leaves infinities and NaNs as they are")
+        raise Refused(f"{pattern} is no finite figure: trimming leaves infinities and NaNs as they are")
     return Fraction(value)
 
 
@@ -149,12 +160,14 @@ def said(figure, far, itself):
 
 
 def jobs_of(width, words, figure=None):
-    """The jobs that are named, and those of jobs files, where the mark follows each."""
+    """The jobs that are named, and those of jobs files, where the mark follows each. A list has one mark, and a figure that is the mark has no distance."""
     lines = []
     for word in words:
         lines += Path(word).read_text(encoding="ascii").splitlines() if word.endswith(".jobs") else [word]
     parts = [re.fullmatch(r"(.*?)(?:,([0-9A-F]{8}|[0-9A-F]{16}))?", line).groups() for line in lines]
     marks = {mark for _, mark in parts if mark}
+    if any(len(mark) != struct.calcsize(width[4]) * 2 for mark in marks):
+        raise Refused(f"the mark {min(marks, key=len)} is none of a {width[6]}")
     if len(marks) > 1:
         raise Refused(f"the jobs have more than one mark, {' and '.join(sorted(marks))}: no distance is proved of such a list")
     if figure in marks:
@@ -172,7 +185,7 @@ def answer(words):
     if words[0] == "--packed":
         if len(words) < 5:
             raise Refused("--packed takes a reference, a step exponent, a code, and the jobs before packing")
-        reference = value_of(SINGLE, words[1])
+        reference = value_of(SINGLE, pattern_of(SINGLE, words[1]))
         exponent = number_of(words[2], -149, 114, "a step exponent")
         code = number_of(words[3], 0, 65535, "a code")
         if code == 65535:
@@ -181,14 +194,10 @@ def answer(words):
         return f"{decimals(meaning, ROUND_FLOOR)}, {said(meaning, far, False)}"
     width = DOUBLE if words[0] == "--double" else SINGLE
     figure, *jobs = words[width is DOUBLE:] or [""]
-    value = value_of(width, figure)
-    pattern = struct.pack(width[4], value).hex().upper()
+    pattern = pattern_of(width, figure)
     jobs = jobs_of(width, jobs, pattern)
-    in_full = is_pattern(width, figure) or Fraction(figure) == value
-    taken = "" if in_full else f"{figure} is taken for {decimals(value, ROUND_FLOOR)} ({pattern}), "
-    if taken and kind_of(jobs) == "digits":
-        raise Refused(f"{figure} is no figure in full, and digits needs its last bit: give the pattern, or all decimals")
-    return taken + said(value, *distance(width, jobs, value))
+    value = value_of(width, pattern)
+    return said(value, *distance(width, jobs, value))
 
 
 if __name__ == "__main__":

@@ -118,7 +118,7 @@ class Library:
         assert self.calls.megharutti_pack((ctypes.c_uint32 * n)(*readings), n, mark, n, codes, n, reference, 1, exponent, 1) == 0
         self.calls.megharutti_unpack.argtypes = [at, size, at, size, at, size, size, ctypes.c_uint64, at, size]
         assert self.calls.megharutti_unpack(codes, n, reference, 1, exponent, 1, n, 0x7FF8 << 48, doubles, n) == 0
-        return Fraction(reference[0]), exponent[0], list(codes), list(doubles)
+        return struct.unpack("<I", bytes(reference))[0], exponent[0], list(codes), list(doubles)
 
 
 def job(width, kind):
@@ -137,41 +137,68 @@ def patterns(width, n):
     return [(x % top) | random.getrandbits(1) << bits for x in every]
 
 
+def interval(line):
+    """What the program prints, as numbers: the two ends, and whether they belong to it."""
+    parts = re.fullmatch(r"(?:\S+, )?(less than|at most) (\S+) away: (?:between|from) (\S+) (?:and|to) (\S+)", line)
+    return Fraction(parts[3]), Fraction(parts[4]), parts[1] == "at most"
+
+
+def lies(what, sent, line):
+    low, high, ends = interval(line)
+    same(f"{what}: {line}", True, low < sent < high or ends and low <= sent <= high)
+
+
+def marks(width, sent):
+    """A mark: a NaN, a zero of either sign, or a finite pattern on or near the grid."""
+    bits = 8 * struct.calcsize(width[4]) - 1
+    return random.choice([2 ** bits - 2 ** (width[0] - 1), 0, 2 ** bits, random.choice(sent), random.choice(sent) >> 16 << 16])
+
+
 def runs(library, turns):
-    """What the library leaves of random lists, beside what how_far.py says of the figures that are left."""
-    mark = {how_far.SINGLE: 0x7CF00000, how_far.DOUBLE: 0x7FF8 << 48}
+    """What the library leaves of random lists, beside what the program prints of the figures that are left, with every kind of mark."""
     for turn in range(turns):
         width = random.choice([how_far.SINGLE, how_far.DOUBLE])
+        digits = 2 * struct.calcsize(width[4])
         kind = random.choice(["tail", "rounding", "digits"])
         jobs = [job(width, kind) for _ in range(1 if kind == "digits" else random.randint(1, 4))]
-        sent = [x for x in patterns(width, 24) if x != mark[width]]
-        left = library.trim(width, sent, jobs, mark[width])
+        sent = patterns(width, 24) + [0, 2 ** (4 * digits - 1)]
+        mark = marks(width, sent)
+        left = library.trim(width, sent, jobs, mark)
+        words = [f"{method},{setting},{mark:0{digits}X}" for method, setting in jobs]
+        start = ["--double"] if width is how_far.DOUBLE else []
         for before, after in zip(sent, left):
-            far, itself = how_far.distance(width, jobs, value(width, after))
-            apart = abs(value(width, before) - value(width, after))
-            same(f"{before:X} by {jobs} is {after:X}", True, apart < far or itself and apart == far)
+            if before == mark:
+                same(f"{after:X}, the mark", True, refused(how_far.answer, [*start, f"0x{after:0{digits}X}", *words]))
+            else:
+                lies(f"{before:X} by {words} is {after:X}", value(width, before), how_far.answer([*start, f"0x{after:0{digits}X}", *words]))
         if width is how_far.SINGLE and kind != "digits":
-            reference, exponent, codes, doubles = library.layer(left, mark[width])
+            reference, exponent, codes, doubles = library.layer(left, mark)
+            layer = ["--packed", f"0x{reference:08X}", str(exponent)]
             for before, code, double in zip(sent, codes, doubles):
-                meaning, far = how_far.packed_distance(jobs, reference, exponent, code)
-                same(f"{before:X} by {jobs}, packed as {code}", True, abs(value(width, before) - meaning) < far)
-                same(f"{before:X} by {jobs}, unpacked as {double:X}", True, abs(value(width, before) - value(how_far.DOUBLE, double)) < far)
+                line = how_far.answer([*layer, str(code), *words])
+                if before == mark:
+                    same(f"{before:X} by {words}, packed as {code}", "missing", line.partition(":")[0])
+                    continue
+                lies(f"{before:X} by {words}, packed as {code}", value(width, before), line)
+                far = how_far.packed_distance(jobs, value(how_far.SINGLE, reference), exponent, code)[1]
+                same(f"{before:X} by {words}, unpacked as {double:X}", True, abs(value(width, before) - value(how_far.DOUBLE, double)) < far)
 
 
 def lines():
     """The program itself, on what people type: examples/how_far.txt has the words after its name, and what it prints."""
-    asked = None
+    asked, before = None, compared
     for line in (ROOT / "examples" / "how_far.txt").read_text(encoding="utf8").splitlines():
         if line.startswith("$ "):
             asked = line[2:].split()
         else:
             done = subprocess.run([sys.executable, PROGRAM, *asked], capture_output=True, text=True, cwd=ROOT)
             same(" ".join(asked), (line, line.startswith("how_far: ")), ((done.stdout + done.stderr).rstrip("\n"), done.returncode != 0))
+    return compared - before
 
 
 random.seed(20)
 few = rows()
-runs(Library(sys.argv[1]), 1500)
-lines()
-print(f"how far: {compared} comparisons, {wrong} wrong")
-sys.exit(1 if wrong or few < 5 else 0)
+runs(Library(sys.argv[1]), 1000)
+typed = lines()
+print(f"how far: {compared} comparisons, {wrong} wrong; {typed} of what people type")
+sys.exit(1 if wrong or few < 5 or typed < 40 else 0)
