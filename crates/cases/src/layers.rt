@@ -31,10 +31,11 @@ use table::line::single_at;
 use table::line::start;
 use table::line::start_list;
 
-// A reference by its pattern. A NaN has none, and is 0 here.
+// A reference by its pattern. Rattle makes no float of a NaN's bits, but a division gives one, and the library knows no other.
 fn value(pattern: u32) -> f32 {
     if pattern % 0x80000000 > 0x7F800000 {
-        return 0.0;
+        let zero: f32 = 0.0;
+        return zero / zero;
     }
     f32::from_bits(pattern)
 }

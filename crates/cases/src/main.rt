@@ -8,7 +8,19 @@ mod rows;
 mod texts;
 mod trims;
 
+// The program takes no argument: whoever names a sheet as one should see at once that it reads standard input.
+fn about() {
+    io::write_all(
+        libc::STDERR_FILENO,
+        b"cases runs the cases of the sheet that it reads from standard input: cases <sheet\n",
+    );
+}
+
 fn main() {
+    if os::arg_count() > 1 {
+        about();
+        return;
+    }
     let mut text = io::large_buffer();
     let n = io::read_full(libc::STDIN_FILENO, &mut text);
     let mut more = [0u8; 1];

@@ -63,13 +63,23 @@ fn one_line(line: &[u8]) -> Count {
     Count { cases: 1, wrong: 1 }
 }
 
-fn total(cases: u64, wrong: u64) {
-    if cases == 0 {
-        put_text(0, b"The sheet has no case.\n");
-    }
+fn put_total(cases: u64, wrong: u64) {
     let at = put_number(put_text(0, b"\n"), cases);
     let at = put_number(put_text(at, b" cases, "), wrong);
     put_text(at, b" wrong\n");
+}
+
+// The last line. A sheet without a case is a slip of whoever wrote it, or can't be read: it counts as a case that is wrong.
+fn total(cases: u64, wrong: u64) {
+    if cases == 0 {
+        put_text(
+            0,
+            b"WRONG, the sheet has no case, or can't be read: cases <sheet\n",
+        );
+        put_total(1, 1);
+        return;
+    }
+    put_total(cases, wrong);
 }
 
 // What is said of a sheet that is longer than the room for it. Its rows aren't run: the last one might be cut.

@@ -182,7 +182,8 @@ pub fn asked(row: &[u8]) -> bool {
     let answer = trim::trim_singles(&mut readings, by, setting, MARK);
     let loaded = trim::trim_single(PI, by, setting, MARK, 0);
     let at = put_text(start_call(row), b", singles");
-    let ok = expected == 0 || readings[0] == PI && loaded == 4294967296 + expected as u64;
+    let ok = expected == 0 && loaded < 4294967296
+        || readings[0] == PI && loaded == 4294967296 + expected as u64;
     answered(row, at, expected, number_of(answer), ok)
 }
 
