@@ -21,7 +21,7 @@ for line in (Path(__file__).parent / "reasons.txt").read_text(encoding="utf8").s
     rows += 1
     done = subprocess.run([sys.argv[1]], input=unfolded(text[1:]), capture_output=True)
     got = (done.returncode, done.stdout.decode("latin1"), done.stderr.decode("latin1"))
-    if got != (0, f"refused,{number}\n", f"trimlist: {reason[1:]}\n"):
+    if got != (0, f"refused,{number}\n", f"trimlist: {unfolded(reason[1:]).decode()}\n"):
         wrong += 1
         print(f"expected {number}, {reason[1:]}: {text[1:]}\n  got {got}")
 print(f"reasons: {rows} texts, {wrong} wrong")

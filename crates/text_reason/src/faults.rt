@@ -9,12 +9,14 @@ pub enum Reason {
     ByteOrderMark,
     CarriageReturn,
     FirstLine,
-    ManyLines,
-    NoNewline,
     EmptyLine,
+    ManyLines,
+    LongLine,
+    NoNewline,
     Semicolon,
     Space,
     LastComma,
+    EmptyField,
     JobFields,
     MethodCapital,
     MethodWord,
@@ -29,7 +31,7 @@ pub enum Reason {
     Ends,
 }
 
-// A fault with its line, the field that has it, and two numbers that some reasons speak of.
+// A fault with its line, the field that has it, and two numbers that some reasons speak of: how many fields there are, or which one it is, and how many names.
 pub struct Fault {
     pub reason: Reason,
     pub line: usize,
@@ -41,6 +43,9 @@ pub struct Fault {
 
 // One byte more than a text of the form can have, and all that `trimlist` reads: a text of so many bytes may go on.
 const CUT: usize = 37053;
+
+// The longest line of the form, eight names of 16 letters with commas between.
+const LONGEST: usize = 135;
 
 fn at_field(reason: Reason, line: usize, from: usize, to: usize) -> Fault {
     Fault {
@@ -116,11 +121,14 @@ fn fields(s: &[u8], from: usize, to: usize) -> usize
     n
 }
 
+// Of UTF-8, or of UTF-16.
 fn is_byte_order_mark(s: &[u8]) -> bool {
-    if s.len() < 2 {
+    if s.len() < 3 {
         return false;
     }
-    s[0] == 0xEF && s[1] == 0xBB || s[0] == 0xFE && s[1] == 0xFF || s[0] == 0xFF && s[1] == 0xFE
+    s[0] == 0xEF && s[1] == 0xBB && s[2] == 0xBF
+        || s[0] == 0xFE && s[1] == 0xFF
+        || s[0] == 0xFF && s[1] == 0xFE
 }
 
 // A name, or a method word by the letters that may stand in it.
@@ -222,6 +230,14 @@ fn setting_fault(s: &[u8], line: usize, from: usize, to: usize) -> Fault
 fn field_fault(s: &[u8], line: usize, k: usize, from: usize, to: usize) -> Fault
     requires { ⌜ (from ≤ to) × (to ≤ length (now s)) ⌝ }
 {
+    if from == to {
+        return with_counts(
+            Reason::EmptyField,
+            line,
+            std::num::wrapping_add_usize(k, 1),
+            0,
+        );
+    }
     if line == 2 && k == 0 {
         return method_fault(s, line, from, to);
     }
@@ -254,7 +270,16 @@ fn fields_fault(s: &[u8], line: usize, from: usize, to: usize) -> Fault
     fine()
 }
 
-// How many fields the line may have.
+fn ends_in(s: &[u8], from: usize, to: usize, byte: u8) -> bool
+    requires { ⌜ (from ≤ to) × (to ≤ length (now s)) ⌝ }
+{
+    if from == to {
+        return false;
+    }
+    s[to - 1] == byte
+}
+
+// Has the line as many fields as it may? On line 3 there may be 1 to 8.
 fn count_fault(line: usize, fields: usize, names: usize) -> Fault {
     if line == 2 && fields != 3 {
         return with_counts(Reason::JobFields, line, fields, 3);
@@ -268,48 +293,55 @@ fn count_fault(line: usize, fields: usize, names: usize) -> Fault {
     fine()
 }
 
-// Signs that people put between or around fields.
+// The number of fields, and a comma at the end: it is one too many, or the field after it is empty.
+fn last_fault(s: &[u8], line: usize, from: usize, to: usize, names: usize) -> Fault
+    requires { ⌜ (from ≤ to) × (to ≤ length (now s)) ⌝ }
+{
+    let n = fields(s, from, to);
+    let fault = count_fault(line, n, names);
+    if !ends_in(s, from, to, b',') {
+        return fault;
+    }
+    if is_found(fault) || line == 3 {
+        return at_line(Reason::LastComma, line);
+    }
+    with_counts(Reason::EmptyField, line, n, 0)
+}
+
+// Signs that people put between fields.
 fn sign_fault(s: &[u8], line: usize, from: usize, to: usize) -> Fault
     requires { ⌜ (from ≤ to) × (to ≤ length (now s)) ⌝ }
 {
-    if from == to {
-        return at_line(Reason::EmptyLine, line);
-    }
     if has(s, from, to, b';', b';') {
         return at_line(Reason::Semicolon, line);
     }
     if has(s, from, to, b' ', b' ') || has(s, from, to, b'\t', b'\t') {
         return at_line(Reason::Space, line);
     }
-    if s[to - 1] == b',' {
-        return at_line(Reason::LastComma, line);
-    }
     fine()
 }
 
-fn is_return(s: &[u8], from: usize, to: usize) -> bool
-    requires { ⌜ (from ≤ to) × (to ≤ length (now s)) ⌝ }
-{
-    if from == to {
-        return false;
-    }
-    s[to - 1] == b'\r'
-}
-
-// A line and how it ends.
+// A line as a whole, and how it ends. Of a line that was cut off while it was read nothing is known of its end.
 fn end_fault(s: &[u8], line: usize, from: usize, to: usize) -> Fault
     requires { ⌜ (from ≤ to) × (to ≤ length (now s)) ⌝ }
 {
-    if is_return(s, from, to) {
+    let cut = to == s.len() && to >= CUT;
+    if ends_in(s, from, to, b'\r') && !cut {
         return at_line(Reason::CarriageReturn, line);
     }
-    if line == 1 && !text_in::header_at(s) && !(to == 19 && to == s.len()) {
+    if line == 1 && !text_in::header_at(s) && !check::same(s, b"method,setting,mark") {
         return at_line(Reason::FirstLine, line);
+    }
+    if from == to {
+        return at_line(Reason::EmptyLine, line);
     }
     if line > 515 {
         return at_line(Reason::ManyLines, line);
     }
-    if to == s.len() && to < CUT {
+    if to - from > LONGEST {
+        return at_line(Reason::LongLine, line);
+    }
+    if to == s.len() {
         return at_line(Reason::NoNewline, line);
     }
     fine()
@@ -326,7 +358,7 @@ fn line_fault(s: &[u8], line: usize, from: usize, to: usize, names: usize) -> Fa
     if is_found(fault) {
         return fault;
     }
-    let fault = count_fault(line, fields(s, from, to), names);
+    let fault = last_fault(s, line, from, to, names);
     if is_found(fault) {
         return fault;
     }

@@ -74,6 +74,12 @@ fn put_values(fault: Fault) {
     put_count(fault.names, b" name");
 }
 
+fn put_empty_field(fault: Fault) {
+    put_line(fault.line, b": field ");
+    put_number(fault.fields);
+    put_text(b" is empty");
+}
+
 fn put_job_fields(fault: Fault) {
     put_line(fault.line, b": ");
     put_count(fault.fields, b" field");
@@ -98,11 +104,13 @@ fn put_whole(fault: Fault) {
         }
         Reason::FirstLine => put_line(line, b" must be: method,setting,mark"),
         Reason::ManyLines => put_line(line, b": more than 512 lines of values"),
+        Reason::LongLine => put_line(line, b" is longer than any line of the form"),
         Reason::NoNewline => put_text(b"the last line has no newline"),
         Reason::EmptyLine => put_line(line, b" is empty"),
         Reason::Semicolon => put_line(line, b" has a semicolon: fields are parted by one comma"),
         Reason::Space => put_line(line, b" has a space or a tab"),
         Reason::LastComma => put_line(line, b" ends in a comma"),
+        Reason::EmptyField => put_empty_field(fault),
         Reason::JobFields => put_job_fields(fault),
         Reason::ManyNames => put_many_names(fault),
         Reason::Values => put_values(fault),
