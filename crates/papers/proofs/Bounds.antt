@@ -1,4 +1,4 @@
--- 001's and 003's bounds for one reading; and with the unit at what is left, which is no smaller: no method takes a reading below the binade in which it lies.
+-- 001's and 003's bounds for one reading; and with the unit at what is left, which is no smaller: but for absolute, whose unit is the same everywhere, no method takes a reading below the binade in which it lies.
 use mathlib.Core.Path.{_≡_, sym}
 use Prim.Native.Nat.{ℕ, _+_, _-_, _*_, _^_, _≤_, _<_, zero-le}
 use native.Mathlib.Nat.{div-add-mod', div-mul-le-self, mod-lt, le-refl, le-of-eq, le-trans, sub-le, mul-le-mul-left, mul-le-mul-right}

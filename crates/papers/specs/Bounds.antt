@@ -21,7 +21,7 @@ pub record UnitBounds (F X : ℕ) : Type 0 where
   pub shave-down : (k mark place w : ℕ) → sizeOf F X (trimmed F X (tail shave k) mark place w) ≤ sizeOf F X w
   pub set-up : (k mark place w : ℕ) → sizeOf F X w ≤ sizeOf F X (trimmed F X (tail set k) mark place w)
 
--- The same by what is left, since the reading is wiped. A call never lowers a method's unit, so that the bounds hold with the unit at the figure left; whether a call
+-- The same by what is left, since the reading is wiped. A call never lowers the unit of its own method, so that the bounds hold with the unit at the figure left; whether a call
 -- clips is still asked of the reading.
 pub record LeftBounds (F X : ℕ) : Type 0 where
   -- of digits too, which has none: its unit is 0 everywhere
