@@ -57,15 +57,16 @@ def picture(folder, work=True):
     return {name: file for name, file in tree.items() if work or not name.startswith("t.trimming")}
 
 
-def lay(files, left=None):
-    """A new folder with these files, one that must never be touched, and what a killed tool with the arguments `left` left."""
+def lay(files, left=None, at=3, also=None):
+    """A new folder with these files, one that must never be touched, and what a tool with the arguments `left` left, killed at a call of sync; `also` has more fakes."""
     folder = room / f"case {next(numbers)}"
     folder.mkdir()
     for name, content in {"other": "other\n", **files}.items():
         (folder / name).write_text(content)
         (folder / name).chmod(MODE)
     if left:
-        run(left, folder, **going_wrong("sync", 2, "killed"))
+        how = going_wrong("sync", at, "killed")
+        run(left, folder, **{**how, "first": f"{how['first']}:{also}" if also else how["first"]})
     return folder
 
 
@@ -222,6 +223,42 @@ def situations():
     yield {"t" * 250: EXAMPLE}, "other", "not too long a name", lambda p: None, ["t" * 250]
 
 
+# No whole trimmed files: what is replaced in ANSWER, and by what. Each is said to be none.
+TORN = [("rain,ozone\n", ""), ("rain,ozone\n", "\n"), ("rain,ozone", "rain"), ("rain,ozone", "rain,ozone,snow"), ("\n4049", "\n\n4049"), ("40490000,7CF00000\n", ""),
+        ("7CF00001,3F800000\n", ""), ("40490000", "4049000"), ("40490000", "040490000"), ("40490000", "4049000g"), ("40490000", "4049000a"), ("40490000", " 40490000"), ("40490000,", ""),
+        ("40490000,", "40490000,,"), ("3F800000", "7CF00000"), ("3F800000", "3F800000,"), ("3F800000", "3F800000\0"), ("3F800000\n", "3F800000\0\n"),
+        (HEADING, HEADING.upper()), (HEADING, HEADING + ","), (HEADING + "\n", ""), (HEADING + "\n", f"{HEADING}\n{HEADING}\n"), (HEADING + "\n", HEADING + "\ngarbage\n"), ("1,1,0,0\n", ""),
+        ("1,1,0,0\n0,0,0,1\n", ""), ("1,1,0,0\n", "1,1,0,0\n\n"), ("1,1,0,0", "3,1,0,0"), ("1,1,0,0", "1,3,0,0"), ("1,1,0,0", "1,1,3,0"), ("1,1,0,0", "1,1,0,1"),
+        ("1,1,0,0", "2,1,0,0"), ("1,1,0,0", "1,1,2,0"), ("1,1,0,0", "1,1,0"), ("1,1,0,0", "1,1,0,0,0"), ("1,1,0,0", "1,1,0,"), ("1,1,0,0", "1,-1,0,0"),
+        ("1,1,0,0", "1,1,0,0x"), ("1,1,0,0", "1, 1,0,0"), ("1,1,0,0", "1,1,0,0e0"),
+        ("0,0,0,1\n", "0,0,0,0\n"), ("0,0,0,1\n", "0,0,0,10\n"), ("0,0,0,1\n", "0,0,0,1"), ("0,0,0,1\n", "0,0,0,1\0"), ("0,0,0,1\n", "0,0,0,1\n\n"),
+        ("0,0,0,1\n", "0,0,0,1\n0,0,0,1\n"), ("0,0,0,1\n", "0,0,0,1\ngarbage"), ("0,0,0,1\n", "0,0,0,1\n\0")]
+
+
+def torn():
+    for old, new in TORN:
+        expect(f"{new!r} for {old!r}", lay({**TRIMMED, "t.trimmed": ANSWER.replace(old, new)}), ["--wipe", *AGAIN], 2, says="t.trimmed is no whole trimmed file: ")
+    for length in range(len(ANSWER)):
+        expect(f"cut after {length} bytes", lay({**TRIMMED, "t.trimmed": ANSWER[:length]}), ["--wipe", *AGAIN], 2, says="t.trimmed is no whole trimmed file: ")
+    # of names alone, and of another mark
+    expect("no readings", lay({**TRIMMED, "t.trimmed": f"rain\n{HEADING}\n0,0,0,0\n"}), AGAIN)
+    expect("another mark", lay({**TRIMMED, "t.jobs": "round,7,7CF00002\n"}), AGAIN, 2, says="t.trimmed is no whole trimmed file: ")
+    # files of Windows
+    for name, ending in itertools.product(TRIMMED, ["\r\n", "\n\r", "\r"]):
+        expect(f"{name} with {ending!r}", lay({**TRIMMED, name: TRIMMED[name].replace("\n", ending)}), ["--wipe", *AGAIN], 2, says=f"{name} is no ")
+        expect(f"{name} with {ending!r}, in words", lay({**TRIMMED, name: TRIMMED[name].replace("\n", ending)}), AGAIN, 2, says="carriage returns")
+    # a line of the user's
+    for names, reason in [("rain,Ozone", "line 1: a name has "), ("rain,ozone\r", "line 1 ends in a carriage return")]:
+        expect(f"the names {names!r}", lay({**TRIMMED, "t.trimmed": ANSWER.replace("rain,ozone", names)}), AGAIN, 1, says=f"t.trimmed: refused,9: {reason}")
+    text = "a\n" + "3F800000\n" * 513 + f"{HEADING}\n0,0,0,0\n"
+    expect("513 lines", lay({**TRIMMED, "t.trimmed": text}), AGAIN, 1, says="refused,9: line 514: more than 512 lines")
+    # nobody may write to it, but its owner may to what is made of it
+    folder = lay(TEXT)
+    (folder / "t").chmod(0o444)
+    run(FIRST, folder)
+    verdict("the mode 0444", [] if {(folder / name).stat().st_mode & 0o777 for name in TRIMMED} == {0o644} else ["other modes"])
+
+
 def nothing_done():
     for (files, spoiled, what, spoil, args), wipe in itertools.product(situations(), [[], ["--wipe"]]):
         folder = lay(files)
@@ -257,11 +294,25 @@ def steps_in_turn():
     # a list of jobs has its own mode again where it is put back
     folder = lay(FORMS[0][0])
     (folder / "t.jobs").chmod(0o600)
-    expect("the mode of t.jobs", folder, FORMS[0][1], 2, **going_wrong("sync", 3, "fails"))
-    for at in [2, 3]:
+    expect("the mode of t.jobs", folder, FORMS[0][1], 2, **going_wrong("sync", 4, "fails"))
+    for at in [2, 3, 4, 5]:
         expect(f"the disk says no, sync number {at}", lay(TEXT), ["--wipe", "t"], 2, **going_wrong("sync", at, "fails"))
     # what changes after everything is in place isn't wiped
-    expect("a late change", lay(TEXT), ["--wipe", "t"], 2, {"t": plain(EXAMPLE + "x\n")}, **going_wrong("sync", 3, "changes"))
+    expect("a late change", lay(TEXT), ["--wipe", "t"], 2, {"t": plain(EXAMPLE + "x\n")}, **going_wrong("sync", 4, "changes"), CHANGE="echo x >>t")
+    # a list of jobs that somebody else changes once it is in place stays as it is then; one that is gone is put back
+    for (files, args), late in itertools.product(FORMS, [0, 1]):
+        # what is kept is synced before
+        at = 4 + (args == AGAIN) + late
+        more = model(picture(lay(files)), args)[1]["t.jobs"][2].decode() + "x\n"
+        for change, now in {"echo x >>t.jobs": more, "umask 027; echo x >u; mv u t.jobs": "x\n", "rm t.jobs": files.get("t.jobs")}.items():
+            says = "t.jobs was changed meanwhile" if "x" in change else ""
+            expect(f"{args}, {change} at sync {at}", lay(files), args, 2, {"t.jobs": plain(now)} if now else {}, says, **going_wrong("sync", at, "changes"), CHANGE=change)
+    for files, args in FORMS:
+        folder = lay(files, args, 4 + (args == AGAIN))
+        (folder / "t.jobs").write_text(files.get("t.jobs", "") + JOB + JOB)
+        want = model(picture(folder, work=False), args)
+        got = run(args, folder)
+        verdict(f"{args}, killed, and jobs changed", difference(want[1], picture(folder)) + ([] if got[0] == want[0] == 0 else [str(got)]))
     # an answer like the file before it is in place only once it was moved there
     same = {"t.trimmed": ANSWER.replace("1,1,0,0", "0,1,0,0"), "t.jobs": JOB}
     for how in ["killed", "killed late"]:
@@ -273,6 +324,43 @@ def steps_in_turn():
     early = any("/answer" in line and "/jobs.new" in line and "t.trimmed" not in line for line in said)
     late = any("./t.trimmed ./t.jobs" in line and " has other t " in line for line in said)
     verdict("what is synced", [] if early and late else said)
+    verdict("what is synced first", [] if said[1].split(" has ")[0] == "./t.trimming/process ./t.trimming" and said[1].endswith("t.trimming/process") else said)
+
+
+# What `uname -n` and /proc/self/ns/pid say elsewhere.
+ELSEWHERE = {"uname": "echo elsewhere", "readlink": '[ "$1" = /proc/self/ns/pid ] && echo "pid:[1]" || exec "$tool" "$@"'}
+
+
+def elsewhere():
+    """A folder of another machine or container is never cleared: who knows whether that one is at work. A folder that can't be cleared is told of."""
+    for (files, args), (tool, code) in itertools.product(FORMS, ELSEWHERE.items()):
+        there = room / "fakes" / f"{tool} elsewhere"
+        there.mkdir(exist_ok=True)
+        (there / tool).write_text(f'#!/bin/sh\nPATH=${{PATH#*:}}; tool={tool}\n{code}\n')
+        (there / tool).chmod(0o755)
+        # two that were killed there with their job in place
+        folder, twin = [lay(files, args, at=4 + (args == AGAIN), also=there) for _ in range(2)]
+        want = model(picture(lay(files)), args)
+        expect(f"{args}, left where {tool} says another", folder, args, 2, says="another machine or container")
+        # one that died here, and one there that clears after it
+        process = folder / "t.trimming" / "process"
+        if not process.exists():
+            continue
+        process.rename(process.with_name("clearing"))
+        process.write_text(subprocess.run(["sh", "-c", 'echo 999999999 "$(uname -n) $(readlink /proc/self/ns/pid)"'], capture_output=True, text=True).stdout)
+        expect(f"{args}, being cleared where {tool} says another", folder, args, 2, says="another machine or container")
+        process.with_name("clearing").unlink()
+        for name, place, how in [("here, once that one is gone", folder, {}), ("there", twin, {"first": there})]:
+            got = run(args, place, **how)
+            verdict(f"{args}, left where {tool} says another, and run {name}", difference(want[1], picture(place)) + ([] if got[0] == want[0] else [str(got)]))
+    for number in ["", "12\n", "999999999\n", "999999999 \n", "x\n"]:
+        folder = lay(TEXT)
+        (folder / "t.trimming").mkdir()
+        for name, content in {"process": number, "before": EXAMPLE}.items():
+            (folder / "t.trimming" / name).write_text(content)
+        # an empty number goes, and the folder stays
+        run(FIRST, folder)
+        expect(f"a folder with the number {number!r}", folder, ["--wipe", *FIRST], 2, says="look at t.jobs, which may have a job too many")
 
 
 # ---- Fake trimlists: what the shell code writes is no whole answer, to the first form's text or the second's
@@ -313,13 +401,13 @@ def fakes():
 FAKE_TOOL = """#!/bin/sh
 read n <"$COUNT"; n=$((n + 1)); echo $n >"$COUNT"
 PATH=${PATH#*:}; tool=${0##*/}
-[ $tool != sync ] || echo "$@" has * >>"$COUNT.said"
+[ $tool != sync ] || echo "$@" has * t.trimming/* >>"$COUNT.said"
 case $HOW,$((n - AT)) in *,0 | 'fails on',[1-9]*) ;; *) exec "$tool" "$@" ;; esac
 case $HOW in *late) "$tool" "$@"; status=$? ;; esac
 case $HOW in
     fails* | late) exit 1 ;;
     killed*) kill -9 $TOOL_ID; exit 1 ;;
-    changes) echo x >>t ;;
+    changes) (eval "$CHANGE") ;;
     waits*) echo >"$COUNT.here"; turns=0; while [ ! -e "$COUNT.go" ] && [ $turns -lt 2000 ]; do sleep 0.02; turns=$((turns + 1)); done ;;
     *) kill -s $HOW $TOOL_ID ;;
 esac
@@ -361,8 +449,10 @@ def cut(files, args, tool, at, how, left=None):
     rest, stays = picture(folder, work=False), (folder / "t.trimming").exists()
     name = f"{args}, {tool} number {at} {how}{', left before' if left else ''}"
     killed, lasting = how.startswith("killed"), how == "fails on"
-    faults = [] if rest in pictures else ["a reading or a job is lost"]
-    if status not in ([-9] if killed else [0, 2]) or status == 0 and rest != pictures[-1] or status == 2 and rest != before and not (lasting and stays):
+    # where cmp says that everything differs, the list of jobs seems changed by somebody else, and stays with a job too many
+    many = {**before, "t.jobs": pictures[-1]["t.jobs"]} if lasting and tool == "cmp" else before
+    faults = [] if rest in [*pictures, many] else ["a reading or a job is lost"]
+    if status not in ([-9] if killed else [0, 2]) or status == 0 and rest != pictures[-1] or status == 2 and rest not in (before, many) and not (lasting and stays):
         faults += [f"status {status}: {err!r}", *difference(before, rest)]
     # only what can't be put back or removed may leave the folder to the next run
     if stays and not killed and not lasting and (tool not in ("rm", "rmdir") or how != "fails"):
@@ -485,7 +575,7 @@ def all_cases():
         (room / "fakes" / tool / tool).write_text(FAKE_TOOL)
         (room / "fakes" / tool / tool).chmod(0o755)
     with ThreadPoolExecutor(4) as pool:
-        tasks = [pool.submit(part) for part in [good_texts, places, nothing_done, more_jobs, steps_in_turn, fakes, file_limits]]
+        tasks = [pool.submit(part) for part in [good_texts, places, nothing_done, more_jobs, steps_in_turn, fakes, file_limits, torn, elsewhere]]
         for task in tasks + [pool.submit(*task) for task in step_tasks()]:
             task.result()
     end_full_disks(process)
