@@ -4,11 +4,12 @@ ghost use mathlib.Core.Path.{_≡_};
 ghost use mathlib.Core.Bool.{cond};
 ghost use Prim.Native.Nat.{_-_, _/_, _*_, _^_, _<_, _≤_};
 ghost use lib.Dec.{eqb, ltb};
-ghost use Rattle.meaning.specs.Readings.{magnitude, infinity};
+ghost use Rattle.meaning.specs.Readings.{infinity};
 ghost use Rattle.meaning.specs.Methods.{halfshaved, round, absolute, digits};
 ghost use Rattle.powers.specs.Table.{powers};
-ghost use Rattle.reading.specs.Left.{wanted, tailAdded};
-ghost use Rattle.double.specs.Left.{doubleFrom, doubleBy};
+ghost use Rattle.reading.specs.Left.{settledFrom, settledBy, settledTail};
+ghost use Rattle.reading.specs.Tails.{constants, TailOf};
+ghost use Rattle.double.specs.Left.{settledOf, constantsOf};
 
 // What is left of a double, and four numbers of 0 or 1: whether it is changed, whether it or its result is the mark, whether it is clipped, whether it is missing.
 pub struct Double {
@@ -28,7 +29,7 @@ pub fn choose_double(a: u64, b: u64, yes: u64, no: u64) -> u64
 
 // The reading x whose new pattern would be z: x itself where it is missing or z is the mark. `over` is 1 where z is clipped.
 pub fn settle_double(x: u64, z: u64, over: u64, mark: u64) -> Double
-    ensures { λ r. ⌜ r ≡ doubleFrom mark x z over ⌝ }
+    ensures { λ r. ⌜ settledOf r ≡ settledFrom mark x z over ⌝ }
 {
     let y = choose_double(x, mark, x, z);
     let p = choose_double(y, mark, x, y);
@@ -68,40 +69,70 @@ pub fn below_double(m: u64, yes: u64, no: u64) -> u64
     if m < 0x7ff0_0000_0000_0000 { yes } else { no }
 }
 
-// Methods 0 to 3: the tail of t bits becomes `add`, and zero stays. The sign stands above every tail, so the whole pattern is cut.
-pub fn tail_double(x: u64, t: u32, add: u64, mark: u64) -> Double
-    requires { ⌜ (t ≤ 52) × (add < 2 ^ t) ⌝ }
-    ensures { λ r. ⌜ r ≡ doubleFrom mark x (wanted 52 11 x (tailAdded t add (magnitude 52 11 x))) 0 ⌝ }
+// What methods 0 to 4 need of a tail, worked out once for an array: how many bits it has, all of them ones, and its top bit.
+pub struct Tail {
+    pub bits: u32,
+    pub ones: u64,
+    pub half: u64,
+}
+
+// The tail under k keep bits.
+pub fn tail_of(k: u32) -> Tail
+    requires { ⌜ k ≤ 52 ⌝ }
+    ensures { λ r. ⌜ constantsOf r ≡ constants 52 k ⌝ }
+{
+    let t = 52 - k;
+    let unit = power_double(t);
+    let ones = unit - 1;
+    Tail {
+        bits: t,
+        ones,
+        half: unit / 2,
+    }
+}
+
+// `add`, or nothing where m is zero.
+fn unless_zero(m: u64, add: u64) -> u64
+    ensures value { λ r. ⌜ r ≡ cond (eqb m 0) 0 add ⌝ }
+    ensures most { λ r. ⌜ r ≤ add ⌝ }
+{
+    if m == 0 { 0 } else { add }
+}
+
+// Methods 0 to 3: the tail becomes `add`, and zero stays. The sign stands above every tail, so the whole pattern is cut.
+pub fn tail_double(x: u64, tail: Tail, add: u64, mark: u64) -> Double
+    requires { ⌜ (TailOf 52 (constantsOf tail)) × (add ≤ tail .ones) ⌝ }
+    ensures { λ r. ⌜ settledOf r ≡ settledTail 52 11 (tail .bits) add mark x ⌝ }
 {
     let m = x % 0x8000_0000_0000_0000;
-    let unit = power_double(t);
-    let s = floor_double(x, unit);
-    let y = choose_double(m, 0, x, s + add);
+    let s = x - (x & tail.ones);
+    let y = s + unless_zero(m, add);
     let z = below_double(m, y, x);
     settle_double(x, z, 0, mark)
 }
 
-// Method 4 with a tail of t bits, not none: half a unit less one is added, and one more where the bit above the tail is one; then the tail is cut off.
-pub fn round_double(x: u64, t: u32, mark: u64) -> Double
-    requires { ⌜ (1 ≤ t) × (t ≤ 52) ⌝ }
-    ensures { λ r. ⌜ r ≡ doubleBy (round (52 - t)) mark 0 x ⌝ }
+// Method 4 with a tail, not none: half a unit less one is added to the whole pattern, and one more where the bit above the tail is one; then the tail is cut off, and
+// a unit taken back where that isn't finite.
+pub fn round_double(x: u64, tail: Tail, mark: u64) -> Double
+    requires { ⌜ (TailOf 52 (constantsOf tail)) × (1 ≤ tail .bits) ⌝ }
+    ensures { λ r. ⌜ settledOf r ≡ settledBy 52 11 (round (52 - tail .bits)) mark 0 x ⌝ }
 {
     let m = x % 0x8000_0000_0000_0000;
-    let unit = power_double(t);
-    let half = power_double(t - 1);
-    let odd = m / unit % 2;
-    let up = floor_double(m + (half - 1) + odd, unit);
-    let s = floor_double(m, unit);
-    let n = below_double(up, up, s);
-    let over = below_double(up, 0, 1);
-    let z = below_double(m, (x - m) + n, x);
+    let odd = (m >> tail.bits) % 2;
+    let near = std::num::wrapping_add_u64(x, tail.half - 1 + odd);
+    let up = near - (near & tail.ones);
+    let u = up % 0x8000_0000_0000_0000;
+    let over = below_double(u, 0, 1);
+    let back = below_double(u, 0, tail.ones + 1);
+    let y = std::num::wrapping_sub_u64(up, back);
+    let z = below_double(m, y, x);
     settle_double(x, z, over, mark)
 }
 
 // Method 5 with the unit 2^q, in least spacings, for the units that the float adder serves.
 pub fn fine_double(x: u64, q: u64, mark: u64) -> Double
     requires { ⌜ (53 ≤ q) × (q ≤ 2044) ⌝ }
-    ensures { λ r. ⌜ r ≡ doubleBy (absolute q) mark 0 x ⌝ }
+    ensures { λ r. ⌜ settledOf r ≡ settledBy 52 11 (absolute q) mark 0 x ⌝ }
 {
     let m = x % 0x8000_0000_0000_0000;
     let a = below_double(m, m, 0);
@@ -112,7 +143,7 @@ pub fn fine_double(x: u64, q: u64, mark: u64) -> Double
 
 // Method 5 with any unit 2^q.
 pub fn coarse_double(x: u64, q: u64, mark: u64) -> Double
-    ensures { λ r. ⌜ r ≡ doubleBy (absolute q) mark 0 x ⌝ }
+    ensures { λ r. ⌜ settledOf r ≡ settledBy 52 11 (absolute q) mark 0 x ⌝ }
 {
     let m = x % 0x8000_0000_0000_0000;
     let a = below_double(m, m, 0);
@@ -137,7 +168,7 @@ fn halfshave_double(m: u64, t: u32) -> u64
 // Method 6 with n digits: method 3 with the tail that the reading's decade gives.
 pub fn digit_double(table: &[u64; 633], x: u64, n: u32, mark: u64) -> Double
     requires { ⌜ ((1 ≤ n) × (n ≤ 15)) × (now table ≡ powers) ⌝ }
-    ensures { λ r. ⌜ r ≡ doubleBy (digits n) mark 0 x ⌝ }
+    ensures { λ r. ⌜ settledOf r ≡ settledBy 52 11 (digits n) mark 0 x ⌝ }
 {
     let m = x % 0x8000_0000_0000_0000;
     let b = below_double(m, m, 1);

@@ -1,212 +1,146 @@
 // Trimming an array of doubles in place: each method's loop. Internal: the calls open to users are those of `trim`.
 ghost use mathlib.Core.Path.{_≡_};
-ghost use Prim.Native.Nat.{_-_, _^_, _<_, _≤_};
-ghost use Rattle.meaning.specs.Methods.{round, absolute, digits};
-ghost use Rattle.double.specs.Left.{doubleBy};
+ghost use mathlib.Core.Logic.{_≢_};
+ghost use Prim.Native.Nat.{_-_, _≤_};
+ghost use lib.ListN.{length};
+ghost use Rattle.meaning.specs.Methods.{round, absolute, digits, placeAfter};
 ghost use Rattle.asking.specs.Asked.{methodBy};
-ghost use Rattle.loops.specs.Methods.{halfUnit, evenBy, oddBy, addAt, Fitting};
-ghost use Rattle.doubles.specs.Walk.{doublesLeft, doublesSummed, tailDouble};
+ghost use Rattle.reading.specs.Left.{settledBy, settledTail};
+ghost use Rattle.reading.specs.Tails.{TailOf};
+ghost use Rattle.double.specs.Left.{constantsOf};
+ghost use Rattle.loops.specs.Tallies.{totalsOf};
+ghost use Rattle.loops.specs.Walk.{stateAt, walkedBy, talliedBy, walked, tallied};
+ghost use Rattle.loops.specs.Methods.{Fitting, addBy, Suits, settledWith, nextWith};
 
-// `even` at even places, `odd` at odd ones.
-fn double_at(place: usize, even: u64, odd: u64) -> u64
-    ensures { λ r. ⌜ r ≡ addAt even odd place ⌝ }
-{
-    if place % 2 == 0 { even } else { odd }
-}
+// ---- each method over doubles
 
-// Methods 0 to 3 over doubles: the tail of t bits becomes `even` or `odd`.
-fn tail_doubles(readings: &mut [u64], t: u32, even: u64, odd: u64, mark: u64) -> loops::Totals
-    requires { ⌜ (t ≤ 52) × ((even < 2 ^ t) × (odd < 2 ^ t)) ⌝ }
-    ensures sums { λ r. ⌜ r ≡ doublesSummed (tailDouble t even odd mark) (now (readings .entry)) ⌝ }
-    ensures content { λ _. ⌜ now (readings .exit) ≡ doublesLeft (tailDouble t even odd mark) (now (readings .entry)) ⌝ }
+// Methods 0, 1 and 3: every tail becomes `add`.
+fn tail_doubles(readings: &mut [u64], tail: double::Tail, add: u64, mark: u64) -> loops::Totals
+    requires { ⌜ (TailOf 52 (constantsOf tail)) × (add ≤ tail .ones) ⌝ }
+    ensures sums { λ r. ⌜ totalsOf r ≡ tallied (settledTail 52 11 (tail .bits) add mark) (now (readings .entry)) ⌝ }
+    ensures content { λ _. ⌜ now (readings .exit) ≡ walked (settledTail 52 11 (tail .bits) add mark) (now (readings .entry)) ⌝ }
 {
-    let mut changed: u64 = 0;
-    let mut marked: u64 = 0;
-    let mut clipped: u64 = 0;
-    let mut missing: u64 = 0;
+    let mut sums = loops::Totals::new();
     let mut i: usize = 0;
     while i < readings.len() {
-        let add = double_at(i, even, odd);
-        let one = double::tail_double(readings[i], t, add, mark);
+        let one = double::tail_double(readings[i], tail, add, mark);
         readings[i] = one.pattern;
-        changed += one.changed;
-        marked += one.marked;
-        clipped += one.clipped;
-        missing += one.missing;
+        sums = sums.plus(one);
         i += 1;
     }
-    loops::Totals {
-        changed,
-        marked,
-        clipped,
-        missing,
-    }
+    sums
 }
 
-// Method 4 over doubles, with a tail of t bits, not none.
-fn round_doubles(readings: &mut [u64], t: u32, mark: u64) -> loops::Totals
-    requires { ⌜ (1 ≤ t) × (t ≤ 52) ⌝ }
-    ensures sums { λ r. ⌜ r ≡ doublesSummed (λ i w. doubleBy (round (52 - t)) mark 0 w) (now (readings .entry)) ⌝ }
-    ensures content { λ _. ⌜ now (readings .exit) ≡ doublesLeft (λ i w. doubleBy (round (52 - t)) mark 0 w) (now (readings .entry)) ⌝ }
+// The sums over a part of an array, and what grooming puts into the tail of the reading after it.
+pub struct Part {
+    pub sums: loops::Totals,
+    pub add: u64,
+}
+
+// Method 2, where the first tail becomes `first`, nothing or all ones, and the next the other.
+fn groom_doubles(readings: &mut [u64], tail: double::Tail, first: u64, mark: u64) -> Part
+    requires { ⌜ (TailOf 52 (constantsOf tail)) × (first ≤ tail .ones) ⌝ }
+    ensures sums { λ r. ⌜ totalsOf (r .sums) ≡ talliedBy (λ w s. tail .ones - s) (λ s w. settledTail 52 11 (tail .bits) s mark w) first (now (readings .entry)) ⌝ }
+    ensures add { λ r. ⌜ r .add ≡ stateAt (λ w s. tail .ones - s) first (now (readings .entry)) (length (now (readings .entry))) ⌝ }
+    ensures content { λ _. ⌜ now (readings .exit) ≡ walkedBy (λ w s. tail .ones - s) (λ s w. settledTail 52 11 (tail .bits) s mark w) first (now (readings .entry)) ⌝ }
 {
-    let mut changed: u64 = 0;
-    let mut marked: u64 = 0;
-    let mut clipped: u64 = 0;
-    let mut missing: u64 = 0;
+    let mut sums = loops::Totals::new();
+    let mut add = first;
     let mut i: usize = 0;
     while i < readings.len() {
-        let one = double::round_double(readings[i], t, mark);
+        let one = double::tail_double(readings[i], tail, add, mark);
         readings[i] = one.pattern;
-        changed += one.changed;
-        marked += one.marked;
-        clipped += one.clipped;
-        missing += one.missing;
+        sums = sums.plus(one);
+        add = tail.ones - add;
         i += 1;
     }
-    loops::Totals {
-        changed,
-        marked,
-        clipped,
-        missing,
-    }
+    Part { sums, add }
 }
 
-// Method 5 over doubles, for the units that the float adder serves.
+// Method 4 with a tail, not none.
+fn round_doubles(readings: &mut [u64], tail: double::Tail, mark: u64) -> loops::Totals
+    requires { ⌜ (TailOf 52 (constantsOf tail)) × (1 ≤ tail .bits) ⌝ }
+    ensures sums { λ r. ⌜ totalsOf r ≡ tallied (settledBy 52 11 (round (52 - tail .bits)) mark 0) (now (readings .entry)) ⌝ }
+    ensures content { λ _. ⌜ now (readings .exit) ≡ walked (settledBy 52 11 (round (52 - tail .bits)) mark 0) (now (readings .entry)) ⌝ }
+{
+    let mut sums = loops::Totals::new();
+    let mut i: usize = 0;
+    while i < readings.len() {
+        let one = double::round_double(readings[i], tail, mark);
+        readings[i] = one.pattern;
+        sums = sums.plus(one);
+        i += 1;
+    }
+    sums
+}
+
+// Method 5 with the unit 2^q, for the units that the float adder serves.
 fn fine_doubles(readings: &mut [u64], q: u64, mark: u64) -> loops::Totals
     requires { ⌜ (53 ≤ q) × (q ≤ 2044) ⌝ }
-    ensures sums { λ r. ⌜ r ≡ doublesSummed (λ i w. doubleBy (absolute q) mark 0 w) (now (readings .entry)) ⌝ }
-    ensures content { λ _. ⌜ now (readings .exit) ≡ doublesLeft (λ i w. doubleBy (absolute q) mark 0 w) (now (readings .entry)) ⌝ }
+    ensures sums { λ r. ⌜ totalsOf r ≡ tallied (settledBy 52 11 (absolute q) mark 0) (now (readings .entry)) ⌝ }
+    ensures content { λ _. ⌜ now (readings .exit) ≡ walked (settledBy 52 11 (absolute q) mark 0) (now (readings .entry)) ⌝ }
 {
-    let mut changed: u64 = 0;
-    let mut marked: u64 = 0;
-    let mut clipped: u64 = 0;
-    let mut missing: u64 = 0;
+    let mut sums = loops::Totals::new();
     let mut i: usize = 0;
     while i < readings.len() {
         let one = double::fine_double(readings[i], q, mark);
         readings[i] = one.pattern;
-        changed += one.changed;
-        marked += one.marked;
-        clipped += one.clipped;
-        missing += one.missing;
+        sums = sums.plus(one);
         i += 1;
     }
-    loops::Totals {
-        changed,
-        marked,
-        clipped,
-        missing,
-    }
+    sums
 }
 
-// Method 5 over doubles, for any unit.
+// Method 5 with any unit.
 fn coarse_doubles(readings: &mut [u64], q: u64, mark: u64) -> loops::Totals
-    ensures sums { λ r. ⌜ r ≡ doublesSummed (λ i w. doubleBy (absolute q) mark 0 w) (now (readings .entry)) ⌝ }
-    ensures content { λ _. ⌜ now (readings .exit) ≡ doublesLeft (λ i w. doubleBy (absolute q) mark 0 w) (now (readings .entry)) ⌝ }
+    ensures sums { λ r. ⌜ totalsOf r ≡ tallied (settledBy 52 11 (absolute q) mark 0) (now (readings .entry)) ⌝ }
+    ensures content { λ _. ⌜ now (readings .exit) ≡ walked (settledBy 52 11 (absolute q) mark 0) (now (readings .entry)) ⌝ }
 {
-    let mut changed: u64 = 0;
-    let mut marked: u64 = 0;
-    let mut clipped: u64 = 0;
-    let mut missing: u64 = 0;
+    let mut sums = loops::Totals::new();
     let mut i: usize = 0;
     while i < readings.len() {
         let one = double::coarse_double(readings[i], q, mark);
         readings[i] = one.pattern;
-        changed += one.changed;
-        marked += one.marked;
-        clipped += one.clipped;
-        missing += one.missing;
+        sums = sums.plus(one);
         i += 1;
     }
-    loops::Totals {
-        changed,
-        marked,
-        clipped,
-        missing,
-    }
+    sums
 }
 
-// Method 6 over doubles, with n digits. The table is named once for the array.
+// Method 6 with n digits. The table is named once for the array.
 fn digit_doubles(readings: &mut [u64], n: u32, mark: u64) -> loops::Totals
     requires { ⌜ (1 ≤ n) × (n ≤ 15) ⌝ }
-    ensures sums { λ r. ⌜ r ≡ doublesSummed (λ i w. doubleBy (digits n) mark 0 w) (now (readings .entry)) ⌝ }
-    ensures content { λ _. ⌜ now (readings .exit) ≡ doublesLeft (λ i w. doubleBy (digits n) mark 0 w) (now (readings .entry)) ⌝ }
+    ensures sums { λ r. ⌜ totalsOf r ≡ tallied (settledBy 52 11 (digits n) mark 0) (now (readings .entry)) ⌝ }
+    ensures content { λ _. ⌜ now (readings .exit) ≡ walked (settledBy 52 11 (digits n) mark 0) (now (readings .entry)) ⌝ }
 {
     let table = powers::POWERS;
-    let mut changed: u64 = 0;
-    let mut marked: u64 = 0;
-    let mut clipped: u64 = 0;
-    let mut missing: u64 = 0;
+    let mut sums = loops::Totals::new();
     let mut i: usize = 0;
     while i < readings.len() {
         let one = double::digit_double(&table, readings[i], n, mark);
         readings[i] = one.pattern;
-        changed += one.changed;
-        marked += one.marked;
-        clipped += one.clipped;
-        missing += one.missing;
+        sums = sums.plus(one);
         i += 1;
     }
-    loops::Totals {
-        changed,
-        marked,
-        clipped,
-        missing,
-    }
+    sums
 }
 
-// What methods 0 to 3 put into the tail of t bits at even places: all ones, a one and zeros, or nothing.
-fn even_double(method: u32, t: u32) -> u64
-    requires { ⌜ t ≤ 52 ⌝ }
-    ensures { λ r. ⌜ r ≡ evenBy method t ⌝ }
+// Method 4 with a tail or none: with none, nothing is added.
+fn rounded_doubles(readings: &mut [u64], tail: double::Tail, mark: u64) -> loops::Totals
+    requires { ⌜ TailOf 52 (constantsOf tail) ⌝ }
+    ensures sums { λ r. ⌜ totalsOf r ≡ tallied (settledBy 52 11 (round (52 - tail .bits)) mark 0) (now (readings .entry)) ⌝ }
+    ensures content { λ _. ⌜ now (readings .exit) ≡ walked (settledBy 52 11 (round (52 - tail .bits)) mark 0) (now (readings .entry)) ⌝ }
 {
-    if method == 1 {
-        return double::power_double(t) - 1;
+    if tail.bits == 0 {
+        return tail_doubles(readings, tail, 0, mark);
     }
-    if method == 3 {
-        return half_double(t);
-    }
-    0
+    round_doubles(readings, tail, mark)
 }
 
-// And at odd places.
-fn odd_double(method: u32, t: u32) -> u64
-    requires { ⌜ t ≤ 52 ⌝ }
-    ensures { λ r. ⌜ r ≡ oddBy method t ⌝ }
-{
-    if method == 2 {
-        return double::power_double(t) - 1;
-    }
-    even_double(method, t)
-}
-
-// Half a unit of t bits, and nothing where t is 0.
-fn half_double(t: u32) -> u64
-    requires { ⌜ t ≤ 52 ⌝ }
-    ensures { λ r. ⌜ r ≡ halfUnit t ⌝ }
-{
-    if t == 0 {
-        return 0;
-    }
-    double::power_double(t - 1)
-}
-
-// Method 4 over doubles with a tail of t bits, or none.
-fn rounded_doubles(readings: &mut [u64], t: u32, mark: u64) -> loops::Totals
-    requires { ⌜ t ≤ 52 ⌝ }
-    ensures sums { λ r. ⌜ r ≡ doublesSummed (λ i w. doubleBy (round (52 - t)) mark i w) (now (readings .entry)) ⌝ }
-    ensures content { λ _. ⌜ now (readings .exit) ≡ doublesLeft (λ i w. doubleBy (round (52 - t)) mark i w) (now (readings .entry)) ⌝ }
-{
-    if t == 0 {
-        return tail_doubles(readings, 0, 0, 0, mark);
-    }
-    round_doubles(readings, t, mark)
-}
-
-// Method 5 over doubles with the unit 2^q: by the float adder where it serves.
+// Method 5 with the unit 2^q: by the float adder where it serves.
 fn step_doubles(readings: &mut [u64], q: u64, mark: u64) -> loops::Totals
-    ensures sums { λ r. ⌜ r ≡ doublesSummed (λ i w. doubleBy (absolute q) mark i w) (now (readings .entry)) ⌝ }
-    ensures content { λ _. ⌜ now (readings .exit) ≡ doublesLeft (λ i w. doubleBy (absolute q) mark i w) (now (readings .entry)) ⌝ }
+    ensures sums { λ r. ⌜ totalsOf r ≡ tallied (settledBy 52 11 (absolute q) mark 0) (now (readings .entry)) ⌝ }
+    ensures content { λ _. ⌜ now (readings .exit) ≡ walked (settledBy 52 11 (absolute q) mark 0) (now (readings .entry)) ⌝ }
 {
     if 53 <= q {
         if q <= 2044 {
@@ -216,32 +150,85 @@ fn step_doubles(readings: &mut [u64], q: u64, mark: u64) -> loops::Totals
     coarse_doubles(readings, q, mark)
 }
 
-// Methods 0 to 3 over doubles, by the method's number and its keep bits.
-fn tails_doubles(readings: &mut [u64], method: u32, n: u32, mark: u64) -> loops::Totals
-    requires { ⌜ (method < 4) × (n ≤ 52) ⌝ }
-    ensures sums { λ r. ⌜ r ≡ doublesSummed (λ i w. doubleBy (methodBy method n) mark i w) (now (readings .entry)) ⌝ }
-    ensures content { λ _. ⌜ now (readings .exit) ≡ doublesLeft (λ i w. doubleBy (methodBy method n) mark i w) (now (readings .entry)) ⌝ }
+// ---- any method, by what is worked out once for an array
+
+// A trim as the loops get it: the method's number, its natural setting, and its tail.
+pub struct Job {
+    pub method: u32,
+    pub n: u32,
+    pub tail: double::Tail,
+}
+
+// The trim by a method's number and its natural setting. Methods 5 and 6 have no tail.
+pub fn job_double(method: u32, n: u32) -> Job
+    requires { ⌜ Fitting method n 52 15 ⌝ }
+    ensures method { λ r. ⌜ r .method ≡ method ⌝ }
+    ensures setting { λ r. ⌜ r .n ≡ n ⌝ }
+    ensures tail { λ r. ⌜ Suits 52 15 (r .method) (r .n) (constantsOf (r .tail)) ⌝ }
 {
-    let t = 52 - n;
-    let even = even_double(method, t);
-    let odd = odd_double(method, t);
-    tail_doubles(readings, t, even, odd, mark)
+    if method <= 4 {
+        let tail = double::tail_of(n);
+        return Job { method, n, tail };
+    }
+    let tail = double::tail_of(52);
+    Job { method, n, tail }
+}
+
+// What methods 0, 1 and 3 put into every tail: nothing, all ones, or a one and zeros.
+fn add_double(method: u32, tail: double::Tail) -> u64
+    ensures { λ r. ⌜ r ≡ addBy method (constantsOf tail) ⌝ }
+{
+    if method == 1 {
+        return tail.ones;
+    }
+    if method == 3 {
+        return tail.half;
+    }
+    0
+}
+
+// An array by any method but grooming.
+fn plain_doubles(readings: &mut [u64], job: Job, mark: u64) -> loops::Totals
+    requires { ⌜ (Suits 52 15 (job .method) (job .n) (constantsOf (job .tail))) × (job .method ≢ 2) ⌝ }
+    ensures sums { λ r. ⌜ totalsOf r ≡ tallied (settledBy 52 11 (methodBy (job .method) (job .n)) mark 0) (now (readings .entry)) ⌝ }
+    ensures content { λ _. ⌜ now (readings .exit) ≡ walked (settledBy 52 11 (methodBy (job .method) (job .n)) mark 0) (now (readings .entry)) ⌝ }
+{
+    if job.method == 6 {
+        return digit_doubles(readings, job.n, mark);
+    }
+    if job.method == 5 {
+        return step_doubles(readings, loops::wide(job.n), mark);
+    }
+    let tail = job.tail;
+    if job.method == 4 {
+        return rounded_doubles(readings, tail, mark);
+    }
+    let add = add_double(job.method, tail);
+    tail_doubles(readings, tail, add, mark)
+}
+
+// A part of an array, where grooming puts `add` into the first tail.
+pub fn part_doubles(readings: &mut [u64], job: Job, add: u64, mark: u64) -> Part
+    requires { ⌜ (Suits 52 15 (job .method) (job .n) (constantsOf (job .tail))) × (add ≤ job .tail .ones) ⌝ }
+    ensures sums { λ r. ⌜ totalsOf (r .sums) ≡ talliedBy (nextWith 52 (job .method) (job .n)) (settledWith 52 11 (job .method) (job .n) mark) add (now (readings .entry)) ⌝ }
+    ensures add { λ r. ⌜ r .add ≡ stateAt (nextWith 52 (job .method) (job .n)) add (now (readings .entry)) (length (now (readings .entry))) ⌝ }
+    ensures content { λ _. ⌜ now (readings .exit) ≡ walkedBy (nextWith 52 (job .method) (job .n)) (settledWith 52 11 (job .method) (job .n) mark) add (now (readings .entry)) ⌝ }
+{
+    if job.method == 2 {
+        let tail = job.tail;
+        return groom_doubles(readings, tail, add, mark);
+    }
+    let sums = plain_doubles(readings, job, mark);
+    Part { sums, add }
 }
 
 // Doubles by a method's number and its natural setting.
 pub fn method_doubles(readings: &mut [u64], method: u32, n: u32, mark: u64) -> loops::Totals
     requires { ⌜ Fitting method n 52 15 ⌝ }
-    ensures sums { λ r. ⌜ r ≡ doublesSummed (λ i w. doubleBy (methodBy method n) mark i w) (now (readings .entry)) ⌝ }
-    ensures content { λ _. ⌜ now (readings .exit) ≡ doublesLeft (λ i w. doubleBy (methodBy method n) mark i w) (now (readings .entry)) ⌝ }
+    ensures sums { λ r. ⌜ totalsOf r ≡ talliedBy (placeAfter 52 11 mark) (settledBy 52 11 (methodBy method n) mark) 0 (now (readings .entry)) ⌝ }
+    ensures content { λ _. ⌜ now (readings .exit) ≡ walkedBy (placeAfter 52 11 mark) (settledBy 52 11 (methodBy method n) mark) 0 (now (readings .entry)) ⌝ }
 {
-    if method == 6 {
-        return digit_doubles(readings, n, mark);
-    }
-    if method == 5 {
-        return step_doubles(readings, loops::wide(n), mark);
-    }
-    if method == 4 {
-        return rounded_doubles(readings, 52 - n, mark);
-    }
-    tails_doubles(readings, method, n, mark)
+    let job = job_double(method, n);
+    let whole = part_doubles(readings, job, 0, mark);
+    whole.sums
 }

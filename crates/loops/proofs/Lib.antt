@@ -1,3 +1,4 @@
+pub mod Tallies
 pub mod Walks
-pub mod Few
-pub mod Tails
+pub mod Methods
+pub mod Once

@@ -1,107 +1,143 @@
--- A loop that walks a slice from the front, stores a new element at each place and adds to four sums: "what is done, and then the rest mapped, is the whole mapped" and
--- "the sum so far, and the sum of the rest, is the whole sum"; where the loop begins, after a turn, and at the end. One law for every method and both widths.
-use mathlib.Core.Path.{_≡_, refl, sym, ap, _∙_}
-use mathlib.Core.List.{List, _∷_, _++_, append-assoc, append-nil}
+-- A loop that walks a slice from the front, leaves its outcome at each place and adds up what the readings count for: "what is done, and then the rest walked, is the whole
+-- walked" and "the sums so far, with those of the rest, are the whole sums". Where it begins, after one reading, after a part that was walked by itself, and at the end.
+-- One law for every method, both widths and any number of counts.
+use mathlib.Core.Path.{_≡_, refl, sym, ap, _∙_, subst}
+use mathlib.Core.List.{List, [], _∷_, _++_, append-assoc, append-nil}
 use Prim.Native.Nat.{ℕ, suc, _+_, _<_, _≤_, zero-le}
-use native.Mathlib.Nat.{add-zero, zero-add, add-assoc}
 use native.Mathlib.Numerals.{add-one}
 use native.Mathlib.Omega.{arith}
-use lib.ListN.{length, take, drop, getD, set, length-set, drop-of-length-le}
-use lib.Seq.{drop-cons, take-suc-set, drop-set-lt, take-all}
-use Rattle.loops.specs.Walk.{mapFrom, sumFrom}
+use lib.ListN.{length, take, drop, getD, set, length-set, length-drop, take-append-drop, drop-of-length-le}
+use lib.Seq.{drop-cons, take-suc-set, drop-set-lt, take-all, length-take-le}
+use Rattle.parts.proofs.Back.{back, length-back, take-back, drop-back}
+use Rattle.reading.specs.Left.{Tally, Settled}
+use Rattle.loops.specs.Tallies.{none, plus, Few}
+use Rattle.loops.specs.Walk.{stateAt, walkedBy, talliedBy}
+use Rattle.loops.proofs.Tallies.{few-none, few-wider, few-plus, plus-none, none-plus, plus-assoc}
 
-abbrev Mapped : (ℕ → ℕ → ℕ) → List ℕ → List ℕ → ℕ → Type 0
-Mapped f all xs i = take i xs ++ mapFrom f i (drop i xs) ≡ mapFrom f 0 all
+-- ---- walks of joined lists
 
-abbrev Summed : (ℕ → ℕ → ℕ) → List ℕ → List ℕ → ℕ → ℕ → Type 0
-Summed g all xs i n = n + sumFrom g i (drop i xs) ≡ sumFrom g 0 all
+state-append : (next : ℕ → ℕ → ℕ) (s : ℕ) (us vs : List ℕ) → stateAt next s (us ++ vs) (length (us ++ vs)) ≡ stateAt next (stateAt next s us (length us)) vs (length vs)
+state-append next s [] vs = refl
+state-append next s (w ∷ us) vs = state-append next (next w s) us vs
 
-mapped-turn : (f : ℕ → ℕ → ℕ) (all xs : List ℕ) (i v : ℕ) → i < length xs → v ≡ f i (getD xs i 0) → Mapped f all xs i → Mapped f all (set xs i v) (i + 1)
-mapped-turn f all xs i v h e inv =
-    rw (add-one, take-suc-set, drop-set-lt (suc i) xs i v (omega arith), append-assoc)
-    (ap (λ (y : ℕ). take i xs ++ (y ∷ mapFrom f (suc i) (drop (suc i) xs))) e
-    ∙ sym (ap (λ (l : List ℕ). take i xs ++ mapFrom f i l) (drop-cons xs i 0 h))
-    ∙ inv)
+module _ (next : ℕ → ℕ → ℕ) (f : ℕ → ℕ → Settled) where
+  walked-append : (s : ℕ) (us vs : List ℕ) → walkedBy next f s (us ++ vs) ≡ walkedBy next f s us ++ walkedBy next f (stateAt next s us (length us)) vs
+  walked-append s [] vs = refl
+  walked-append s (w ∷ us) vs = ap (λ (l : List ℕ). f s w .pattern ∷ l) (walked-append (next w s) us vs)
 
-summed-turn : (g : ℕ → ℕ → ℕ) (all xs : List ℕ) (i v n m : ℕ) → i < length xs → m ≡ g i (getD xs i 0) → Summed g all xs i n → Summed g all (set xs i v) (i + 1) (n + m)
-summed-turn g all xs i v n m h e inv =
-    rw (add-one, drop-set-lt (suc i) xs i v (omega arith), add-assoc)
-    (ap (λ (y : ℕ). n + (y + sumFrom g (suc i) (drop (suc i) xs))) e
-    ∙ sym (ap (λ (l : List ℕ). n + sumFrom g i l) (drop-cons xs i 0 h))
-    ∙ inv)
+  tallied-append : (s : ℕ) (us vs : List ℕ) → talliedBy next f s (us ++ vs) ≡ plus (talliedBy next f s us) (talliedBy next f (stateAt next s us (length us)) vs)
+  tallied-append s [] vs = sym (none-plus (talliedBy next f s vs))
+  tallied-append s (w ∷ us) vs =
+      ap (plus (f s w .tally)) (tallied-append (next w s) us vs)
+      ∙ sym (plus-assoc (f s w .tally) (talliedBy next f (next w s) us) (talliedBy next f (stateAt next (next w s) us (length us)) vs))
 
-pub mapped-end : (f : ℕ → ℕ → ℕ) (all xs : List ℕ) (i : ℕ) → length xs ≤ i → Mapped f all xs i → xs ≡ mapFrom f 0 all
-mapped-end f all xs i h inv =
-    sym (take-all i xs h) ∙ sym (append-nil (take i xs)) ∙ sym (ap (λ (l : List ℕ). take i xs ++ mapFrom f i l) (drop-of-length-le xs h)) ∙ inv
+  walked-length : (s : ℕ) (ws : List ℕ) → length (walkedBy next f s ws) ≡ length ws
+  walked-length s [] = refl
+  walked-length s (w ∷ ws) = ap suc (walked-length (next w s) ws)
 
-pub summed-end : (g : ℕ → ℕ → ℕ) (all xs : List ℕ) (i n : ℕ) → length xs ≤ i → Summed g all xs i n → n ≡ sumFrom g 0 all
-summed-end g all xs i n h inv = sym (add-zero n) ∙ sym (ap (λ (l : List ℕ). n + sumFrom g i l) (drop-of-length-le xs h)) ∙ inv
+  few-tallied : ((s w : ℕ) → Few (f s w .tally) 1) → (s : ℕ) (ws : List ℕ) → Few (talliedBy next f s ws) (length ws)
+  few-tallied ones s [] = few-none
+  few-tallied ones s (w ∷ ws) =
+      few-wider (talliedBy next f s (w ∷ ws)) (1 + length ws) (suc (length ws)) (omega arith)
+      (few-plus (f s w .tally) (talliedBy next f (next w s) ws) 1 (length ws) (ones s w) (few-tallied ones (next w s) ws))
 
--- what is left at a place, and what it counts for: p, and four numbers of 0 or 1
-pub record One (p a b c d : ℕ → ℕ → ℕ) (i w : ℕ) : Type 0 where
-  pub a-bit : a i w ≤ 1
-  pub b-bit : b i w ≤ 1
-  pub c-bit : c i w ≤ 1
-  pub d-bit : d i w ≤ 1
+-- ---- the loop
 
-pub record Turn (p a b c d : ℕ → ℕ → ℕ) (all xs : List ℕ) (na nb nc nd i : ℕ) : Type 0 where
+pub record Walk (next : ℕ → ℕ → ℕ) (f : ℕ → ℕ → Settled) (first : ℕ) (all xs : List ℕ) (t : Tally) (s i : ℕ) : Type 0 where
   pub same : length xs ≡ length all
-  pub few-a : na ≤ i
-  pub few-b : nb ≤ i
-  pub few-c : nc ≤ i
-  pub few-d : nd ≤ i
-  pub mapped : take i xs ++ mapFrom p i (drop i xs) ≡ mapFrom p 0 all
-  pub sum-a : na + sumFrom a i (drop i xs) ≡ sumFrom a 0 all
-  pub sum-b : nb + sumFrom b i (drop i xs) ≡ sumFrom b 0 all
-  pub sum-c : nc + sumFrom c i (drop i xs) ≡ sumFrom c 0 all
-  pub sum-d : nd + sumFrom d i (drop i xs) ≡ sumFrom d 0 all
+  pub within : i ≤ length xs
+  pub ones : (s w : ℕ) → Few (f s w .tally) 1
+  pub few : Few t i
+  pub state : stateAt next s (drop i xs) (length (drop i xs)) ≡ stateAt next first all (length all)
+  pub left : take i xs ++ walkedBy next f s (drop i xs) ≡ walkedBy next f first all
+  pub sums : plus t (talliedBy next f s (drop i xs)) ≡ talliedBy next f first all
 
-pub record Ended (p a b c d : ℕ → ℕ → ℕ) (all xs : List ℕ) (na nb nc nd : ℕ) : Type 0 where
-  pub left : xs ≡ mapFrom p 0 all
-  pub is-a : na ≡ sumFrom a 0 all
-  pub is-b : nb ≡ sumFrom b 0 all
-  pub is-c : nc ≡ sumFrom c 0 all
-  pub is-d : nd ≡ sumFrom d 0 all
+module _ {next : ℕ → ℕ → ℕ} {f : ℕ → ℕ → Settled} {first : ℕ} {all : List ℕ} where
+  pub begin : {t : Tally} → ((s w : ℕ) → Few (f s w .tally) 1) → t ≡ none → Walk next f first all all t first 0
+  begin {t} ones e =
+      subst (λ (r : Tally). Walk next f first all all r first 0) (sym e)
+      (record { same = refl; within = zero-le; ones = ones; few = few-none; state = refl; left = refl; sums = none-plus (talliedBy next f first all) })
 
-module _ (p a b c d : ℕ → ℕ → ℕ) (all : List ℕ) where
-  pub start : Turn p a b c d all all 0 0 0 0 0
-  start =
-      record {
-        same = refl;
-        few-a = zero-le;
-        few-b = zero-le;
-        few-c = zero-le;
-        few-d = zero-le;
-        mapped = refl;
-        sum-a = zero-add (sumFrom a 0 all);
-        sum-b = zero-add (sumFrom b 0 all);
-        sum-c = zero-add (sumFrom c 0 all);
-        sum-d = zero-add (sumFrom d 0 all);
-      }
+  module _ {xs : List ℕ} {t : Tally} {s i : ℕ} (inv : Walk next f first all xs t s i) where
+    -- what one reading more asks for
+    pub room : {r : Settled} {most : ℕ} → i ≤ most → r ≡ f s (getD xs i 0) → Few t most × Few (r .tally) 1
+    room {r} {most} h e = (few-wider t i most h (inv .few), subst (λ (y : Settled). Few (y .tally) 1) (sym e) (inv .ones s (getD xs i 0)))
 
-  module _ (xs : List ℕ) (na nb nc nd i : ℕ) (inv : Turn p a b c d all xs na nb nc nd i) where
-    pub turn : i < length xs → One p a b c d i (getD xs i 0) → (v ma mb mc md : ℕ) → v ≡ p i (getD xs i 0) → ma ≡ a i (getD xs i 0) → mb ≡ b i (getD xs i 0)
-        → mc ≡ c i (getD xs i 0) → md ≡ d i (getD xs i 0) → Turn p a b c d all (set xs i v) (na + ma) (nb + mb) (nc + mc) (nd + md) (i + 1)
-    turn h o v ma mb mc md ev ea eb ec ed =
+    pub step : {r : Settled} {u : Tally} {v : ℕ} → i < length xs → r ≡ f s (getD xs i 0) → u ≡ plus t (r .tally) → v ≡ next (getD xs i 0) s
+        → Walk next f first all (set xs i (r .pattern)) u v (i + 1)
+    step {r} {u} {v} h e p n =
+        let w = getD xs i 0 in
+        let q = p ∙ ap (λ (y : Settled). plus t (y .tally)) e in
         record {
-          same = length-set xs i v ∙ inv .same;
-          few-a = omega (arith, inv .few-a, o .a-bit);
-          few-b = omega (arith, inv .few-b, o .b-bit);
-          few-c = omega (arith, inv .few-c, o .c-bit);
-          few-d = omega (arith, inv .few-d, o .d-bit);
-          mapped = mapped-turn p all xs i v h ev (inv .mapped);
-          sum-a = summed-turn a all xs i v na ma h ea (inv .sum-a);
-          sum-b = summed-turn b all xs i v nb mb h eb (inv .sum-b);
-          sum-c = summed-turn c all xs i v nc mc h ec (inv .sum-c);
-          sum-d = summed-turn d all xs i v nd md h ed (inv .sum-d);
+          same = length-set xs i (r .pattern) ∙ inv .same;
+          within = rw (length-set xs i (r .pattern)) (omega arith);
+          ones = inv .ones;
+          few = subst (λ (y : Tally). Few y (i + 1)) (sym q) (few-plus t (f s w .tally) i 1 (inv .few) (inv .ones s w));
+          state =
+              rw (add-one, drop-set-lt (suc i) xs i (r .pattern) (omega arith), n)
+              (sym (ap (λ (l : List ℕ). stateAt next s l (length l)) (drop-cons xs i 0 h)) ∙ inv .state);
+          left =
+              rw (add-one, take-suc-set, drop-set-lt (suc i) xs i (r .pattern) (omega arith), append-assoc, n)
+              (ap (λ (y : Settled). take i xs ++ (y .pattern ∷ walkedBy next f (next w s) (drop (suc i) xs))) e
+              ∙ sym (ap (λ (l : List ℕ). take i xs ++ walkedBy next f s l) (drop-cons xs i 0 h))
+              ∙ inv .left);
+          sums =
+              rw (add-one, drop-set-lt (suc i) xs i (r .pattern) (omega arith), n)
+              (ap (λ (y : Tally). plus y (talliedBy next f (next w s) (drop (suc i) xs))) q
+              ∙ plus-assoc t (f s w .tally) (talliedBy next f (next w s) (drop (suc i) xs))
+              ∙ sym (ap (λ (l : List ℕ). plus t (talliedBy next f s l)) (drop-cons xs i 0 h))
+              ∙ inv .sums);
         }
 
-    pub finish : length xs ≤ i → Ended p a b c d all xs na nb nc nd
-    finish h =
-        record {
-          left = mapped-end p all xs i h (inv .mapped);
-          is-a = summed-end a all xs i na h (inv .sum-a);
-          is-b = summed-end b all xs i nb h (inv .sum-b);
-          is-c = summed-end c all xs i nc h (inv .sum-c);
-          is-d = summed-end d all xs i nd h (inv .sum-d);
-        }
+    -- the k readings from i on, walked by themselves
+    module _ (k : ℕ) (long : i + k ≤ length xs) where
+      part-length : length (take k (drop i xs)) ≡ k
+      part-length = length-take-le k (drop i xs) (simp length-drop (omega arith))
+
+      pub few-part : {r : Tally} → r ≡ talliedBy next f s (take k (drop i xs)) → Few (plus t r) (i + k)
+      few-part {r} e =
+          few-plus t r i k (inv .few) (subst (λ (n : ℕ). Few r n) part-length (subst (λ (y : Tally). Few y (length (take k (drop i xs)))) (sym e) (few-tallied next f (inv .ones) s (take k (drop i xs)))))
+
+      pub part : {ys : List ℕ} {r u : Tally} {v e : ℕ} → i + k ≡ e → ys ≡ walkedBy next f s (take k (drop i xs)) → r ≡ talliedBy next f s (take k (drop i xs)) → u ≡ plus t r
+          → v ≡ stateAt next s (take k (drop i xs)) (length (take k (drop i xs))) → Walk next f first all (back xs i k ys) u v e
+      part {ys} {r} {u} {v} {e} to ey er eu ev =
+          subst (λ (n : ℕ). Walk next f first all (back xs i k ys) u v n) to
+          (record {
+            same = length-back xs i k ys ys-length long ∙ inv .same;
+            within = rw (length-back xs i k ys ys-length long) long;
+            ones = inv .ones;
+            few = subst (λ (y : Tally). Few y (i + k)) (sym eu) (few-part er);
+            state =
+                rw (drop-back xs i k ys ys-length long, ev)
+                (sym (state-append next s now rest) ∙ ap (λ (l : List ℕ). stateAt next s l (length l)) (take-append-drop k (drop i xs)) ∙ inv .state);
+            left =
+                rw (take-back xs i k ys ys-length long, drop-back xs i k ys ys-length long, ev)
+                (append-assoc (take i xs) ys (walkedBy next f (stateAt next s now (length now)) rest)
+                ∙ ap (λ (l : List ℕ). take i xs ++ l)
+                (ap (λ (l : List ℕ). l ++ walkedBy next f (stateAt next s now (length now)) rest) ey ∙ sym (walked-append next f s now rest) ∙ ap (walkedBy next f s) (take-append-drop k (drop i xs)))
+                ∙ inv .left);
+            sums =
+                rw (drop-back xs i k ys ys-length long, ev)
+                (ap (λ (y : Tally). plus y (talliedBy next f (stateAt next s now (length now)) rest)) (eu ∙ ap (plus t) er)
+                ∙ plus-assoc t (talliedBy next f s now) (talliedBy next f (stateAt next s now (length now)) rest)
+                ∙ ap (plus t) (sym (tallied-append next f s now rest) ∙ ap (talliedBy next f s) (take-append-drop k (drop i xs)))
+                ∙ inv .sums);
+          })
+        where
+          now : List ℕ
+          now = take k (drop i xs)
+
+          rest : List ℕ
+          rest = drop k (drop i xs)
+
+          ys-length : length ys ≡ k
+          ys-length = ap length ey ∙ walked-length next f s (take k (drop i xs)) ∙ part-length
+
+    pub end : length xs ≤ i → (t ≡ talliedBy next f first all) × (xs ≡ walkedBy next f first all)
+    end h = (
+      sym (plus-none t) ∙ sym (ap (λ (l : List ℕ). plus t (talliedBy next f s l)) (drop-of-length-le xs h)) ∙ inv .sums,
+      sym (take-all i xs h) ∙ sym (append-nil (take i xs)) ∙ sym (ap (λ (l : List ℕ). take i xs ++ walkedBy next f s l) (drop-of-length-le xs h)) ∙ inv .left,
+    )
+
+    pub end-state : length xs ≤ i → s ≡ stateAt next first all (length all)
+    end-state h = sym (ap (λ (l : List ℕ). stateAt next s l (length l)) (drop-of-length-le xs h)) ∙ inv .state

@@ -1,2 +1,4 @@
+pub mod Tallies
 pub mod Walk
 pub mod Methods
+pub mod Once

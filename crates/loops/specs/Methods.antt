@@ -1,24 +1,11 @@
--- What methods 0 to 3 put into a tail of t bits, by a method's number; and the natural settings that fit a method.
+-- A method over an array by its number and its natural setting, reading by reading: what each puts into a tail, and what grooming gives the next one. For every width.
 use mathlib.Core.Path.{_≡_}
-use mathlib.Core.Bool.{cond}
-use Prim.Native.Nat.{ℕ, zero, suc, _-_, _%_, _^_, _≤_}
-use lib.Dec.{eqb}
-
--- half a unit, and nothing where there is no tail
-abbrev pub halfUnit : ℕ → ℕ
-halfUnit zero = 0
-halfUnit (suc t) = 2 ^ t
-
--- at even and at odd places
-unfoldable pub evenBy : ℕ → ℕ → ℕ
-evenBy method t = cond (eqb method 1) (2 ^ t - 1) (cond (eqb method 3) (halfUnit t) 0)
-
-unfoldable pub oddBy : ℕ → ℕ → ℕ
-oddBy method t = cond (eqb method 2) (2 ^ t - 1) (evenBy method t)
-
--- what methods 0 to 3 put into the tail at a place: one thing at even places, and one at odd ones
-unfoldable pub addAt : ℕ → ℕ → ℕ → ℕ
-addAt even odd place = cond (eqb (place % 2) 0) even odd
+use mathlib.Core.Bool.{Bool, true, false, cond}
+use Prim.Native.Nat.{ℕ, _-_, _%_, _≤_}
+use lib.Dec.{leb, eqb}
+use Rattle.asking.specs.Asked.{methodBy}
+use Rattle.reading.specs.Left.{Settled, settledBy, settledTail}
+use Rattle.reading.specs.Tails.{Constants, constants}
 
 -- a known method with a natural setting that fits: keep bits up to F, digits from 1 to `most`
 pub record Fitting (method n F most : ℕ) : Type 0 where
@@ -26,3 +13,32 @@ pub record Fitting (method n F most : ℕ) : Type 0 where
   pub keep : method ≤ 4 → n ≤ F
   pub some : method ≡ 6 → 1 ≤ n
   pub few : method ≡ 6 → n ≤ most
+
+-- what methods 0, 1 and 3 put into every tail
+unfoldable pub addBy : ℕ → Constants → ℕ
+addBy method c = cond (eqb method 1) (c .ones) (cond (eqb method 3) (c .half) 0)
+
+-- the one or the other, by a place's parity
+unfoldable pub addAt : ℕ → ℕ → ℕ → ℕ
+addAt even odd place = cond (eqb (place % 2) 0) even odd
+
+-- the keep bits of methods 0 to 4; the others have no tail
+unfoldable pub keepOf : ℕ → ℕ → ℕ → ℕ
+keepOf F method n = cond (leb method 4) n F
+
+-- a trim as the loops get it: a method with a setting that fits, and the constants of its tail
+pub record Suits (F most method n : ℕ) (c : Constants) : Type 0 where
+  pub fitting : Fitting method n F most
+  pub tail : c ≡ constants F (keepOf F method n)
+
+abbrev pub settledIf : Bool → Settled → Settled → Settled
+settledIf true a b = a
+settledIf false a b = b
+
+-- grooming puts s into the tail and the other methods don't look at it; after each reading grooming has the tail's other filling, all ones or none
+module _ (F X : ℕ) where
+  unfoldable pub settledWith : ℕ → ℕ → ℕ → ℕ → ℕ → Settled
+  settledWith method n mark s w = settledIf (eqb method 2) (settledTail F X (F - n) s mark w) (settledBy F X (methodBy method n) mark 0 w)
+
+unfoldable pub nextWith : ℕ → ℕ → ℕ → ℕ → ℕ → ℕ
+nextWith F method n w s = cond (eqb method 2) (constants F n .ones - s) s

@@ -1,5 +1,43 @@
-// What the loops over singles and those over doubles share: the sums over an array, and a wider number. Internal: the calls open to users are those of `trim`.
+// The sums that the loops over singles and those over doubles gather, and a wider number. Internal: the calls open to users are those of `trim`.
 ghost use mathlib.Core.Path.{_≡_};
+ghost use Rattle.single.specs.Left as S;
+ghost use Rattle.double.specs.Left as D;
+ghost use Rattle.loops.specs.Tallies.{none, plus, Few, sumsOf, totalsOf};
+
+// The sums over up to 65,536 singles, in counters as narrow as a single: LLVM can work on four readings at once.
+pub struct Sums {
+    pub changed: u32,
+    pub marked: u32,
+    pub clipped: u32,
+    pub missing: u32,
+}
+
+impl Sums {
+    // Of no reading.
+    pub fn new() -> Self
+        ensures { λ r. ⌜ sumsOf r ≡ none ⌝ }
+    {
+        Self {
+            changed: 0,
+            marked: 0,
+            clipped: 0,
+            missing: 0,
+        }
+    }
+
+    // With one reading more.
+    pub fn plus(self, one: single::Single) -> Self
+        requires { ⌜ (Few (sumsOf self) 65535) × (Few (S.settledOf one .tally) 1) ⌝ }
+        ensures { λ r. ⌜ sumsOf r ≡ plus (sumsOf self) (S.settledOf one .tally) ⌝ }
+    {
+        Self {
+            changed: self.changed + one.changed,
+            marked: self.marked + one.marked,
+            clipped: self.clipped + one.clipped,
+            missing: self.missing + one.missing,
+        }
+    }
+}
 
 // The sums over a whole array: places changed, places where the reading or its result is the mark, places clipped, places missing.
 pub struct Totals {
@@ -7,6 +45,46 @@ pub struct Totals {
     pub marked: u64,
     pub clipped: u64,
     pub missing: u64,
+}
+
+impl Totals {
+    // Of no reading.
+    pub fn new() -> Self
+        ensures { λ r. ⌜ totalsOf r ≡ none ⌝ }
+    {
+        Self {
+            changed: 0,
+            marked: 0,
+            clipped: 0,
+            missing: 0,
+        }
+    }
+
+    // With one reading more.
+    pub fn plus(self, reading: double::Double) -> Self
+        requires { ⌜ (Few (totalsOf self) 0xffff_ffff_ffff_fffe) × (Few (D.settledOf reading .tally) 1) ⌝ }
+        ensures { λ r. ⌜ totalsOf r ≡ plus (totalsOf self) (D.settledOf reading .tally) ⌝ }
+    {
+        Self {
+            changed: self.changed + reading.changed,
+            marked: self.marked + reading.marked,
+            clipped: self.clipped + reading.clipped,
+            missing: self.missing + reading.missing,
+        }
+    }
+
+    // With those of a block of singles.
+    pub fn join(self, block: Sums) -> Self
+        requires { ⌜ Few (plus (totalsOf self) (sumsOf block)) 0xffff_ffff_ffff_ffff ⌝ }
+        ensures { λ r. ⌜ totalsOf r ≡ plus (totalsOf self) (sumsOf block) ⌝ }
+    {
+        Self {
+            changed: self.changed + wide(block.changed),
+            marked: self.marked + wide(block.marked),
+            clipped: self.clipped + wide(block.clipped),
+            missing: self.missing + wide(block.missing),
+        }
+    }
 }
 
 pub fn wide(x: u32) -> u64

@@ -1,2 +1,4 @@
 pub mod Counted
 pub mod Words
+pub mod Settled
+pub mod Tails

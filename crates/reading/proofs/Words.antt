@@ -13,7 +13,7 @@ use Rattle.meaning.specs.Readings.{sign, magnitude, pattern, infinity, finite}
 use Rattle.meaning.specs.Methods.{Method, digits, halfshaved, round, shaved, rounded, clips, newMagnitude}
 use Rattle.meaning.proofs.Powers.{pow-split}
 use Rattle.meaning.proofs.Nearest.{nearest-add}
-use Rattle.reading.specs.Left.{unlessMissing, leftFrom, wanted, wantedBy, over, tailAdded}
+use Rattle.reading.specs.Left.{unlessMissing, leftFrom, wanted, wantedBy, over}
 
 -- a tail of t bits fits above the cut
 pub floor-room : (w t m add : ℕ) → t ≤ w → m < 2 ^ w → add < 2 ^ t → m / 2 ^ t * 2 ^ t + add < 2 ^ w
@@ -72,7 +72,7 @@ unfolding shaved
 cut t m U S u s = s ∙ ap (λ (x : ℕ). m / x * x) u
 
 -- the cut of a whole pattern is its sign and the cut of the rest
-floor-sign : (w t n : ℕ) → t ≤ n → w / 2 ^ t * 2 ^ t ≡ w - w % 2 ^ n + w % 2 ^ n / 2 ^ t * 2 ^ t
+pub floor-sign : (w t n : ℕ) → t ≤ n → w / 2 ^ t * 2 ^ t ≡ w - w % 2 ^ n + w % 2 ^ n / 2 ^ t * 2 ^ t
 floor-sign w t n h =
     let q = w / 2 ^ n * 2 ^ (n - t) in
     let m = w % 2 ^ n in
@@ -125,41 +125,6 @@ module _ (F X : ℕ) where
         go : Dec (rounded t m < infinity F X) → _≡_ {A = ℕ} (cond (ltb (rounded t m) (infinity F X)) 0 1) (cond (leb (infinity F X) (rounded t m)) 1 0)
         go (yes l) = rw (lt-ltb (rounded t m) (infinity F X) l, lt-leb (infinity F X) (rounded t m) l) refl
         go (no l) = rw (le-ltb (rounded t m) (infinity F X) (omega arith), le-leb (infinity F X) (rounded t m) (omega arith)) refl
-
-  -- methods 0 to 3: the new pattern by the whole pattern's cut S
-  module _ (w t add U S : ℕ) (h : t ≤ F) (u : U ≡ 2 ^ t) (s : S ≡ w / U * U) where
-    pub whole-cut : S + add ≡ w - magnitude F X w + (shaved t (magnitude F X w) + add)
-    unfolding magnitude shaved
-    whole-cut = let e = s ∙ ap (λ (x : ℕ). w / x * x) u ∙ floor-sign w t (F + X) (omega arith) in omega arith
-
-    pub tail-word : (y z : ℕ) → y ≡ cond (eqb (magnitude F X w) 0) w (S + add) → z ≡ cond (ltb (magnitude F X w) (infinity F X)) y w → z ≡ wanted F X w (tailAdded t add (magnitude F X w))
-    unfolding tailAdded
-    tail-word y z f e =
-        e ∙ ap (λ (x : ℕ). cond (ltb (magnitude F X w) (infinity F X)) x w) (f ∙ go (ℕ-discrete (magnitude F X w) 0))
-        ∙ wanted-sum w (cond (eqb (magnitude F X w) 0) (magnitude F X w) (shaved t (magnitude F X w) + add))
-      where
-        go : Dec (magnitude F X w ≡ 0)
-            → cond (eqb (magnitude F X w) 0) w (S + add) ≡ w - magnitude F X w + cond (eqb (magnitude F X w) 0) (magnitude F X w) (shaved t (magnitude F X w) + add)
-        go (yes a) = rw (eq-eqb (magnitude F X w) 0 a) (omega arith)
-        go (no a) = rw (ne-eqb (magnitude F X w) 0 a) whole-cut
-
-  -- method 4: the new pattern, and whether it is clipped, by the cut S and the sum cut
-  module _ (w t H U up S : ℕ) (l : 1 ≤ t) (h : t ≤ F) (hh : H ≡ 2 ^ (t - 1)) (uu : U ≡ 2 ^ t)
-      (pp : up ≡ (magnitude F X w + (H - 1) + magnitude F X w / U % 2) / U * U) (ss : S ≡ magnitude F X w / U * U) where
-    up-is : up ≡ rounded t (magnitude F X w)
-    up-is = rounded-sum t (magnitude F X w) H U up (omega arith) hh uu pp
-
-    pub round-word : (n z : ℕ) → n ≡ cond (ltb up (infinity F X)) up S → z ≡ cond (ltb (magnitude F X w) (infinity F X)) (w - magnitude F X w + n) w
-        → z ≡ wantedBy F X (round (F - t)) 0 w
-    unfolding wantedBy
-    round-word n z nn zz =
-        zz ∙ ap (λ (x : ℕ). cond (ltb (magnitude F X w) (infinity F X)) (w - magnitude F X w + x) w)
-        (nn ∙ rw (up-is, cut t (magnitude F X w) U S uu ss) (round-new t (magnitude F X w) h 0))
-        ∙ wanted-sum w (newMagnitude F X (round (F - t)) 0 (magnitude F X w))
-
-    pub over-word : (o : ℕ) → o ≡ cond (ltb up (infinity F X)) 0 1 → o ≡ over F X (round (F - t)) w
-    unfolding over
-    over-word o oo = oo ∙ rw up-is (round-over t (magnitude F X w) h)
 
   pub digits-zero : (n m : ℕ) → m ≡ 0 → newMagnitude F X (digits n) 0 m ≡ 0
   unfolding newMagnitude

@@ -1,9 +1,21 @@
--- What is left of a reading x whose new pattern would be z; and the new pattern of a reading by its new magnitude.
+-- What is left of a reading x whose new pattern would be z, and what it counts for; and the new pattern of a reading by its new magnitude. For every width.
 use mathlib.Core.Bool.{cond}
 use Prim.Native.Nat.{ℕ, _+_}
 use lib.Dec.{eqb}
 use Rattle.meaning.specs.Readings.{sign, magnitude, pattern, finite}
 use Rattle.meaning.specs.Methods.{Method, shaved, newMagnitude, clips}
+
+-- what one reading, or a whole array, counts for: places changed, places where the reading or its result is the mark, places clipped, places missing
+pub record Tally : Type 0 where
+  pub changed : ℕ
+  pub marked : ℕ
+  pub clipped : ℕ
+  pub missing : ℕ
+
+-- the pattern that is left of a reading, and what the reading counts for
+pub record Settled : Type 0 where
+  pub pattern : ℕ
+  pub tally : Tally
 
 -- x stays where it is missing
 unfoldable pub unlessMissing : ℕ → ℕ → ℕ → ℕ
@@ -12,6 +24,23 @@ unlessMissing mark x z = cond (eqb x mark) x z
 -- and where its new pattern would be the mark
 unfoldable pub leftFrom : ℕ → ℕ → ℕ → ℕ
 leftFrom mark x z = cond (eqb (unlessMissing mark x z) mark) x (unlessMissing mark x z)
+
+-- `over` is 1 where z is clipped
+unfoldable pub settledFrom : ℕ → ℕ → ℕ → ℕ → Settled
+settledFrom mark x z over =
+    record {
+      pattern = leftFrom mark x z;
+      tally = record {
+        changed = cond (eqb (leftFrom mark x z) x) 0 1;
+        marked = cond (eqb (unlessMissing mark x z) mark) 1 0;
+        clipped = cond (eqb (leftFrom mark x z) x) 0 over;
+        missing = cond (eqb x mark) 1 0;
+      };
+    }
+
+-- methods 0 to 3: a tail of t bits becomes `add`, and zero stays
+unfoldable pub tailAdded : ℕ → ℕ → ℕ → ℕ
+tailAdded t add m = cond (eqb m 0) m (shaved t m + add)
 
 module _ (F X : ℕ) where
   -- the new pattern of a reading whose new magnitude is n: a reading that isn't finite stays
@@ -25,6 +54,10 @@ module _ (F X : ℕ) where
   unfoldable pub over : Method → ℕ → ℕ
   over x w = cond (clips F X x (magnitude F X w)) 1 0
 
--- methods 0 to 3: a tail of t bits becomes `add`, and zero stays
-unfoldable pub tailAdded : ℕ → ℕ → ℕ → ℕ
-tailAdded t add m = cond (eqb m 0) m (shaved t m + add)
+  -- a reading trimmed by a method at a place
+  unfoldable pub settledBy : Method → ℕ → ℕ → ℕ → Settled
+  settledBy x mark place w = settledFrom mark w (wantedBy x place w) (over x w)
+
+  -- a reading whose tail of t bits becomes `add`
+  unfoldable pub settledTail : ℕ → ℕ → ℕ → ℕ → Settled
+  settledTail t add mark w = settledFrom mark w (wanted w (tailAdded t add (magnitude F X w))) 0

@@ -1,3 +1,1 @@
-pub mod Settled
-pub mod Bys
 pub mod Fields

@@ -4,12 +4,13 @@ ghost use mathlib.Core.Path.{_≡_};
 ghost use mathlib.Core.Bool.{cond};
 ghost use Prim.Native.Nat.{_-_, _/_, _*_, _^_, _<_, _≤_};
 ghost use lib.Dec.{eqb, ltb};
-ghost use Rattle.meaning.specs.Readings.{magnitude, infinity};
+ghost use Rattle.meaning.specs.Readings.{infinity};
 ghost use Rattle.meaning.specs.Methods.{halfshaved, round, absolute, digits};
 ghost use Rattle.powers.specs.Table.{powers};
 ghost use Rattle.digit_tables.specs.Fields.{Limits, Masks};
-ghost use Rattle.reading.specs.Left.{wanted, tailAdded};
-ghost use Rattle.single.specs.Left.{singleFrom, singleBy, subnormal};
+ghost use Rattle.reading.specs.Left.{settledFrom, settledBy, settledTail};
+ghost use Rattle.reading.specs.Tails.{constants, TailOf};
+ghost use Rattle.single.specs.Left.{settledOf, constantsOf, subnormal};
 
 // What is left of a single, and four numbers of 0 or 1: whether it is changed, whether it or its result is the mark, whether it is clipped, whether it is missing.
 pub struct Single {
@@ -29,7 +30,7 @@ pub fn choose_single(a: u32, b: u32, yes: u32, no: u32) -> u32
 
 // The reading x whose new pattern would be z: x itself where it is missing or z is the mark. `over` is 1 where z is clipped.
 pub fn settle_single(x: u32, z: u32, over: u32, mark: u32) -> Single
-    ensures { λ r. ⌜ r ≡ singleFrom mark x z over ⌝ }
+    ensures { λ r. ⌜ settledOf r ≡ settledFrom mark x z over ⌝ }
 {
     let hit = choose_single(z, mark, 1, 0);
     let marked = choose_single(x, mark, 1, hit);
@@ -69,40 +70,70 @@ pub fn below_single(m: u32, yes: u32, no: u32) -> u32
     if m < 0x7f80_0000 { yes } else { no }
 }
 
-// Methods 0 to 3: the tail of t bits becomes `add`, and zero stays. The sign stands above every tail, so the whole pattern is cut.
-pub fn tail_single(x: u32, t: u32, add: u32, mark: u32) -> Single
-    requires { ⌜ (t ≤ 23) × (add < 2 ^ t) ⌝ }
-    ensures { λ r. ⌜ r ≡ singleFrom mark x (wanted 23 8 x (tailAdded t add (magnitude 23 8 x))) 0 ⌝ }
+// What methods 0 to 4 need of a tail, worked out once for an array: how many bits it has, all of them ones, and its top bit.
+pub struct Tail {
+    pub bits: u32,
+    pub ones: u32,
+    pub half: u32,
+}
+
+// The tail under k keep bits.
+pub fn tail_of(k: u32) -> Tail
+    requires { ⌜ k ≤ 23 ⌝ }
+    ensures { λ r. ⌜ constantsOf r ≡ constants 23 k ⌝ }
+{
+    let t = 23 - k;
+    let unit = power_single(t);
+    let ones = unit - 1;
+    Tail {
+        bits: t,
+        ones,
+        half: unit / 2,
+    }
+}
+
+// `add`, or nothing where m is zero.
+fn unless_zero(m: u32, add: u32) -> u32
+    ensures value { λ r. ⌜ r ≡ cond (eqb m 0) 0 add ⌝ }
+    ensures most { λ r. ⌜ r ≤ add ⌝ }
+{
+    if m == 0 { 0 } else { add }
+}
+
+// Methods 0 to 3: the tail becomes `add`, and zero stays. The sign stands above every tail, so the whole pattern is cut.
+pub fn tail_single(x: u32, tail: Tail, add: u32, mark: u32) -> Single
+    requires { ⌜ (TailOf 23 (constantsOf tail)) × (add ≤ tail .ones) ⌝ }
+    ensures { λ r. ⌜ settledOf r ≡ settledTail 23 8 (tail .bits) add mark x ⌝ }
 {
     let m = x % 0x8000_0000;
-    let unit = power_single(t);
-    let s = floor_single(x, unit);
-    let y = choose_single(m, 0, x, s + add);
+    let s = x - (x & tail.ones);
+    let y = s + unless_zero(m, add);
     let z = below_single(m, y, x);
     settle_single(x, z, 0, mark)
 }
 
-// Method 4 with a tail of t bits, not none: half a unit less one is added, and one more where the bit above the tail is one; then the tail is cut off.
-pub fn round_single(x: u32, t: u32, mark: u32) -> Single
-    requires { ⌜ (1 ≤ t) × (t ≤ 23) ⌝ }
-    ensures { λ r. ⌜ r ≡ singleBy (round (23 - t)) mark 0 x ⌝ }
+// Method 4 with a tail, not none: half a unit less one is added to the whole pattern, and one more where the bit above the tail is one; then the tail is cut off, and
+// a unit taken back where that isn't finite.
+pub fn round_single(x: u32, tail: Tail, mark: u32) -> Single
+    requires { ⌜ (TailOf 23 (constantsOf tail)) × (1 ≤ tail .bits) ⌝ }
+    ensures { λ r. ⌜ settledOf r ≡ settledBy 23 8 (round (23 - tail .bits)) mark 0 x ⌝ }
 {
     let m = x % 0x8000_0000;
-    let unit = power_single(t);
-    let half = power_single(t - 1);
-    let odd = m / unit % 2;
-    let up = floor_single(m + (half - 1) + odd, unit);
-    let s = floor_single(m, unit);
-    let n = below_single(up, up, s);
-    let over = below_single(up, 0, 1);
-    let z = below_single(m, (x - m) + n, x);
+    let odd = (m >> tail.bits) % 2;
+    let near = std::num::wrapping_add_u32(x, tail.half - 1 + odd);
+    let up = near - (near & tail.ones);
+    let u = up % 0x8000_0000;
+    let over = below_single(u, 0, 1);
+    let back = below_single(u, 0, tail.ones + 1);
+    let y = std::num::wrapping_sub_u32(up, back);
+    let z = below_single(m, y, x);
     settle_single(x, z, over, mark)
 }
 
 // Method 5 with the unit 2^q, in least spacings, for the units that the float adder serves.
 pub fn fine_single(x: u32, q: u32, mark: u32) -> Single
     requires { ⌜ (24 ≤ q) × (q ≤ 252) ⌝ }
-    ensures { λ r. ⌜ r ≡ singleBy (absolute q) mark 0 x ⌝ }
+    ensures { λ r. ⌜ settledOf r ≡ settledBy 23 8 (absolute q) mark 0 x ⌝ }
 {
     let m = x % 0x8000_0000;
     let a = below_single(m, m, 0);
@@ -113,7 +144,7 @@ pub fn fine_single(x: u32, q: u32, mark: u32) -> Single
 
 // Method 5 with any unit 2^q.
 pub fn coarse_single(x: u32, q: u32, mark: u32) -> Single
-    ensures { λ r. ⌜ r ≡ singleBy (absolute q) mark 0 x ⌝ }
+    ensures { λ r. ⌜ settledOf r ≡ settledBy 23 8 (absolute q) mark 0 x ⌝ }
 {
     let m = x % 0x8000_0000;
     let a = below_single(m, m, 0);
@@ -138,7 +169,7 @@ fn halfshave_single(m: u32, t: u32) -> u32
 // Method 6 with n digits: method 3 with the tail that the reading's decade gives.
 pub fn digit_single(table: &[u64; 633], x: u32, n: u32, mark: u32) -> Single
     requires { ⌜ ((1 ≤ n) × (n ≤ 7)) × (now table ≡ powers) ⌝ }
-    ensures { λ r. ⌜ r ≡ singleBy (digits n) mark 0 x ⌝ }
+    ensures { λ r. ⌜ settledOf r ≡ settledBy 23 8 (digits n) mark 0 x ⌝ }
 {
     let m = x % 0x8000_0000;
     let b = below_single(m, m, 1);
@@ -171,7 +202,7 @@ fn decade_single(m: u32, limit: u32) -> usize
 // Method 6 with n digits on a single that isn't subnormal, by the tables of the exponent fields: the limit says which mask, and the mask's bits become a one and zeros.
 pub fn field_single(limits: &[u32; 256], masks: &[u32; 512], x: u32, n: u32, mark: u32) -> Single
     requires { ⌜ ((1 ≤ n) × (n ≤ 7)) × (Limits (now limits)) × (Masks n (now masks)) × (subnormal 23 8 x ≡ 0) ⌝ }
-    ensures { λ r. ⌜ r ≡ singleBy (digits n) mark 0 x ⌝ }
+    ensures { λ r. ⌜ settledOf r ≡ settledBy 23 8 (digits n) mark 0 x ⌝ }
 {
     let m = x % 0x8000_0000;
     let f = (m >> 23) as usize;

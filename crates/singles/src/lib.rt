@@ -1,172 +1,137 @@
 // Trimming an array of singles in place: each method's loop, and the loader's one reading. The loops run in blocks, so that 32-bit counters serve and LLVM can work
 // on four readings at once. Internal: the calls open to users are those of `trim`.
 ghost use mathlib.Core.Path.{_≡_};
+ghost use mathlib.Core.Logic.{_≢_};
 ghost use mathlib.Core.Bool.{true};
-ghost use Prim.Native.Nat.{min, _-_, _^_, _<_, _≤_};
+ghost use Prim.Native.Nat.{min, _-_, _<_, _≤_};
 ghost use lib.ListN.{length};
-ghost use Rattle.meaning.specs.Methods.{round, absolute, digits};
+ghost use Rattle.meaning.specs.Methods.{round, absolute, digits, placeAfter};
 ghost use Rattle.powers.specs.Table.{powers};
 ghost use Rattle.digit_tables.specs.Fields.{Limits, Masks};
-ghost use Rattle.single.specs.Left.{singleBy};
 ghost use Rattle.asking.specs.Asked.{methodBy};
-ghost use Rattle.loops.specs.Methods.{halfUnit, evenBy, oddBy, addAt, Fitting};
-ghost use Rattle.singles.specs.Plans.{Sound, planned, Plans};
-ghost use Rattle.singles.specs.Walk.{NoSubnormal, singlesLeft, singlesSummed, singlesTotal, tailSingle};
+ghost use Rattle.reading.specs.Left.{settledBy, settledTail};
+ghost use Rattle.reading.specs.Tails.{TailOf};
+ghost use Rattle.single.specs.Left.{settledOf, constantsOf};
+ghost use Rattle.loops.specs.Tallies.{sumsOf, totalsOf};
+ghost use Rattle.loops.specs.Walk.{stateAt, walkedBy, talliedBy, walked, tallied};
+ghost use Rattle.loops.specs.Methods.{Fitting, addBy, Suits, settledWith, nextWith};
+ghost use Rattle.singles.specs.Subnormal.{NoSubnormal};
 
-// The sums over a block of singles: places changed, places where the reading or its result is the mark, places clipped, places missing.
-pub struct Block {
-    pub changed: u32,
-    pub marked: u32,
-    pub clipped: u32,
-    pub missing: u32,
-}
+// ---- each method over a block of singles
 
-// `even` at even places, `odd` at odd ones.
-fn single_at(place: usize, even: u32, odd: u32) -> u32
-    ensures { λ r. ⌜ r ≡ addAt even odd place ⌝ }
+// Methods 0, 1 and 3: every tail becomes `add`.
+fn tail_singles(readings: &mut [u32], tail: single::Tail, add: u32, mark: u32) -> loops::Sums
+    requires { ⌜ ((TailOf 23 (constantsOf tail)) × (add ≤ tail .ones)) × (length (now readings) ≤ 65536) ⌝ }
+    ensures sums { λ r. ⌜ sumsOf r ≡ tallied (settledTail 23 8 (tail .bits) add mark) (now (readings .entry)) ⌝ }
+    ensures content { λ _. ⌜ now (readings .exit) ≡ walked (settledTail 23 8 (tail .bits) add mark) (now (readings .entry)) ⌝ }
 {
-    if place % 2 == 0 { even } else { odd }
-}
-
-// Methods 0 to 3 over a block of singles: the tail of t bits becomes `even` or `odd`.
-fn tail_singles(readings: &mut [u32], t: u32, even: u32, odd: u32, mark: u32) -> Block
-    requires { ⌜ (t ≤ 23) × ((even < 2 ^ t) × ((odd < 2 ^ t) × (length (now readings) ≤ 65536))) ⌝ }
-    ensures sums { λ r. ⌜ r ≡ singlesSummed (tailSingle t even odd mark) (now (readings .entry)) ⌝ }
-    ensures content { λ _. ⌜ now (readings .exit) ≡ singlesLeft (tailSingle t even odd mark) (now (readings .entry)) ⌝ }
-{
-    let mut changed: u32 = 0;
-    let mut marked: u32 = 0;
-    let mut clipped: u32 = 0;
-    let mut missing: u32 = 0;
+    let mut sums = loops::Sums::new();
     let mut i: usize = 0;
     while i < readings.len() {
-        let add = single_at(i, even, odd);
-        let one = single::tail_single(readings[i], t, add, mark);
+        let one = single::tail_single(readings[i], tail, add, mark);
         readings[i] = one.pattern;
-        changed += one.changed;
-        marked += one.marked;
-        clipped += one.clipped;
-        missing += one.missing;
+        sums = sums.plus(one);
         i += 1;
     }
-    Block {
-        changed,
-        marked,
-        clipped,
-        missing,
-    }
+    sums
 }
 
-// Method 4 over a block of singles, with a tail of t bits, not none.
-fn round_singles(readings: &mut [u32], t: u32, mark: u32) -> Block
-    requires { ⌜ ((1 ≤ t) × (t ≤ 23)) × (length (now readings) ≤ 65536) ⌝ }
-    ensures sums { λ r. ⌜ r ≡ singlesSummed (λ i w. singleBy (round (23 - t)) mark 0 w) (now (readings .entry)) ⌝ }
-    ensures content { λ _. ⌜ now (readings .exit) ≡ singlesLeft (λ i w. singleBy (round (23 - t)) mark 0 w) (now (readings .entry)) ⌝ }
+// The sums over a part of an array, and what grooming puts into the tail of the reading after it.
+pub struct Part {
+    pub sums: loops::Sums,
+    pub add: u32,
+}
+
+// Method 2, where the first tail becomes `first`, nothing or all ones, and the next the other. `turn` is 0 at even places and 2^31 at odd ones: it is the same again
+// four readings on, so LLVM can work out what goes into four tails before the loop.
+fn groom_singles(readings: &mut [u32], tail: single::Tail, first: u32, mark: u32) -> Part
+    requires { ⌜ ((TailOf 23 (constantsOf tail)) × (first ≤ tail .ones)) × (length (now readings) ≤ 65536) ⌝ }
+    ensures sums { λ r. ⌜ sumsOf (r .sums) ≡ talliedBy (λ w s. tail .ones - s) (λ s w. settledTail 23 8 (tail .bits) s mark w) first (now (readings .entry)) ⌝ }
+    ensures add { λ r. ⌜ r .add ≡ stateAt (λ w s. tail .ones - s) first (now (readings .entry)) (length (now (readings .entry))) ⌝ }
+    ensures content { λ _. ⌜ now (readings .exit) ≡ walkedBy (λ w s. tail .ones - s) (λ s w. settledTail 23 8 (tail .bits) s mark w) first (now (readings .entry)) ⌝ }
 {
-    let mut changed: u32 = 0;
-    let mut marked: u32 = 0;
-    let mut clipped: u32 = 0;
-    let mut missing: u32 = 0;
+    let second = tail.ones - first;
+    let mut sums = loops::Sums::new();
+    let mut turn: u32 = 0;
     let mut i: usize = 0;
     while i < readings.len() {
-        let one = single::round_single(readings[i], t, mark);
+        let add = single::choose_single(turn, 0, first, second);
+        let one = single::tail_single(readings[i], tail, add, mark);
         readings[i] = one.pattern;
-        changed += one.changed;
-        marked += one.marked;
-        clipped += one.clipped;
-        missing += one.missing;
+        sums = sums.plus(one);
+        turn = std::num::wrapping_add_u32(turn, 0x8000_0000);
         i += 1;
     }
-    Block {
-        changed,
-        marked,
-        clipped,
-        missing,
-    }
+    let add = single::choose_single(turn, 0, first, second);
+    Part { sums, add }
 }
 
-// Method 5 over a block of singles, for the units that the float adder serves.
-fn fine_singles(readings: &mut [u32], q: u32, mark: u32) -> Block
+// Method 4 with a tail, not none.
+fn round_singles(readings: &mut [u32], tail: single::Tail, mark: u32) -> loops::Sums
+    requires { ⌜ ((TailOf 23 (constantsOf tail)) × (1 ≤ tail .bits)) × (length (now readings) ≤ 65536) ⌝ }
+    ensures sums { λ r. ⌜ sumsOf r ≡ tallied (settledBy 23 8 (round (23 - tail .bits)) mark 0) (now (readings .entry)) ⌝ }
+    ensures content { λ _. ⌜ now (readings .exit) ≡ walked (settledBy 23 8 (round (23 - tail .bits)) mark 0) (now (readings .entry)) ⌝ }
+{
+    let mut sums = loops::Sums::new();
+    let mut i: usize = 0;
+    while i < readings.len() {
+        let one = single::round_single(readings[i], tail, mark);
+        readings[i] = one.pattern;
+        sums = sums.plus(one);
+        i += 1;
+    }
+    sums
+}
+
+// Method 5 with the unit 2^q, for the units that the float adder serves.
+fn fine_singles(readings: &mut [u32], q: u32, mark: u32) -> loops::Sums
     requires { ⌜ ((24 ≤ q) × (q ≤ 252)) × (length (now readings) ≤ 65536) ⌝ }
-    ensures sums { λ r. ⌜ r ≡ singlesSummed (λ i w. singleBy (absolute q) mark 0 w) (now (readings .entry)) ⌝ }
-    ensures content { λ _. ⌜ now (readings .exit) ≡ singlesLeft (λ i w. singleBy (absolute q) mark 0 w) (now (readings .entry)) ⌝ }
+    ensures sums { λ r. ⌜ sumsOf r ≡ tallied (settledBy 23 8 (absolute q) mark 0) (now (readings .entry)) ⌝ }
+    ensures content { λ _. ⌜ now (readings .exit) ≡ walked (settledBy 23 8 (absolute q) mark 0) (now (readings .entry)) ⌝ }
 {
-    let mut changed: u32 = 0;
-    let mut marked: u32 = 0;
-    let mut clipped: u32 = 0;
-    let mut missing: u32 = 0;
+    let mut sums = loops::Sums::new();
     let mut i: usize = 0;
     while i < readings.len() {
         let one = single::fine_single(readings[i], q, mark);
         readings[i] = one.pattern;
-        changed += one.changed;
-        marked += one.marked;
-        clipped += one.clipped;
-        missing += one.missing;
+        sums = sums.plus(one);
         i += 1;
     }
-    Block {
-        changed,
-        marked,
-        clipped,
-        missing,
-    }
+    sums
 }
 
-// Method 5 over a block of singles, for any unit.
-fn coarse_singles(readings: &mut [u32], q: u32, mark: u32) -> Block
+// Method 5 with any unit.
+fn coarse_singles(readings: &mut [u32], q: u32, mark: u32) -> loops::Sums
     requires { ⌜ length (now readings) ≤ 65536 ⌝ }
-    ensures sums { λ r. ⌜ r ≡ singlesSummed (λ i w. singleBy (absolute q) mark 0 w) (now (readings .entry)) ⌝ }
-    ensures content { λ _. ⌜ now (readings .exit) ≡ singlesLeft (λ i w. singleBy (absolute q) mark 0 w) (now (readings .entry)) ⌝ }
+    ensures sums { λ r. ⌜ sumsOf r ≡ tallied (settledBy 23 8 (absolute q) mark 0) (now (readings .entry)) ⌝ }
+    ensures content { λ _. ⌜ now (readings .exit) ≡ walked (settledBy 23 8 (absolute q) mark 0) (now (readings .entry)) ⌝ }
 {
-    let mut changed: u32 = 0;
-    let mut marked: u32 = 0;
-    let mut clipped: u32 = 0;
-    let mut missing: u32 = 0;
+    let mut sums = loops::Sums::new();
     let mut i: usize = 0;
     while i < readings.len() {
         let one = single::coarse_single(readings[i], q, mark);
         readings[i] = one.pattern;
-        changed += one.changed;
-        marked += one.marked;
-        clipped += one.clipped;
-        missing += one.missing;
+        sums = sums.plus(one);
         i += 1;
     }
-    Block {
-        changed,
-        marked,
-        clipped,
-        missing,
-    }
+    sums
 }
 
-// Method 6 over a block of singles, with n digits.
-fn digit_singles(table: &[u64; 633], readings: &mut [u32], n: u32, mark: u32) -> Block
+// Method 6 with n digits.
+fn digit_singles(table: &[u64; 633], readings: &mut [u32], n: u32, mark: u32) -> loops::Sums
     requires { ⌜ ((1 ≤ n) × (n ≤ 7)) × (length (now readings) ≤ 65536) × (now table ≡ powers) ⌝ }
-    ensures sums { λ r. ⌜ r ≡ singlesSummed (λ i w. singleBy (digits n) mark 0 w) (now (readings .entry)) ⌝ }
-    ensures content { λ _. ⌜ now (readings .exit) ≡ singlesLeft (λ i w. singleBy (digits n) mark 0 w) (now (readings .entry)) ⌝ }
+    ensures sums { λ r. ⌜ sumsOf r ≡ tallied (settledBy 23 8 (digits n) mark 0) (now (readings .entry)) ⌝ }
+    ensures content { λ _. ⌜ now (readings .exit) ≡ walked (settledBy 23 8 (digits n) mark 0) (now (readings .entry)) ⌝ }
 {
-    let mut changed: u32 = 0;
-    let mut marked: u32 = 0;
-    let mut clipped: u32 = 0;
-    let mut missing: u32 = 0;
+    let mut sums = loops::Sums::new();
     let mut i: usize = 0;
     while i < readings.len() {
         let one = single::digit_single(table, readings[i], n, mark);
         readings[i] = one.pattern;
-        changed += one.changed;
-        marked += one.marked;
-        clipped += one.clipped;
-        missing += one.missing;
+        sums = sums.plus(one);
         i += 1;
     }
-    Block {
-        changed,
-        marked,
-        clipped,
-        missing,
-    }
+    sums
 }
 
 // The same by the tables of the exponent fields, where no reading is subnormal.
@@ -176,31 +141,20 @@ fn field_singles(
     readings: &mut [u32],
     n: u32,
     mark: u32,
-) -> Block
+) -> loops::Sums
     requires { ⌜ ((1 ≤ n) × (n ≤ 7)) × (length (now readings) ≤ 65536) × (Limits (now limits)) × (Masks n (now masks)) × (NoSubnormal (now readings)) ⌝ }
-    ensures sums { λ r. ⌜ r ≡ singlesSummed (λ i w. singleBy (digits n) mark 0 w) (now (readings .entry)) ⌝ }
-    ensures content { λ _. ⌜ now (readings .exit) ≡ singlesLeft (λ i w. singleBy (digits n) mark 0 w) (now (readings .entry)) ⌝ }
+    ensures sums { λ r. ⌜ sumsOf r ≡ tallied (settledBy 23 8 (digits n) mark 0) (now (readings .entry)) ⌝ }
+    ensures content { λ _. ⌜ now (readings .exit) ≡ walked (settledBy 23 8 (digits n) mark 0) (now (readings .entry)) ⌝ }
 {
-    let mut changed: u32 = 0;
-    let mut marked: u32 = 0;
-    let mut clipped: u32 = 0;
-    let mut missing: u32 = 0;
+    let mut sums = loops::Sums::new();
     let mut i: usize = 0;
     while i < readings.len() {
         let one = single::field_single(limits, masks, readings[i], n, mark);
         readings[i] = one.pattern;
-        changed += one.changed;
-        marked += one.marked;
-        clipped += one.clipped;
-        missing += one.missing;
+        sums = sums.plus(one);
         i += 1;
     }
-    Block {
-        changed,
-        marked,
-        clipped,
-        missing,
-    }
+    sums
 }
 
 // How many singles of a block are subnormal and not zero.
@@ -229,10 +183,10 @@ fn fields_serve(readings: &[u32]) -> bool
 }
 
 // Method 6 over a block of singles, by whichever serves. The table is named once for the block.
-fn digits_block(readings: &mut [u32], n: u32, mark: u32) -> Block
+fn digits_block(readings: &mut [u32], n: u32, mark: u32) -> loops::Sums
     requires { ⌜ ((1 ≤ n) × (n ≤ 7)) × (length (now readings) ≤ 65536) ⌝ }
-    ensures sums { λ r. ⌜ r ≡ singlesSummed (λ i w. singleBy (digits n) mark 0 w) (now (readings .entry)) ⌝ }
-    ensures content { λ _. ⌜ now (readings .exit) ≡ singlesLeft (λ i w. singleBy (digits n) mark 0 w) (now (readings .entry)) ⌝ }
+    ensures sums { λ r. ⌜ sumsOf r ≡ tallied (settledBy 23 8 (digits n) mark 0) (now (readings .entry)) ⌝ }
+    ensures content { λ _. ⌜ now (readings .exit) ≡ walked (settledBy 23 8 (digits n) mark 0) (now (readings .entry)) ⌝ }
 {
     let table = powers::POWERS;
     if fields_serve(&*readings) {
@@ -243,221 +197,184 @@ fn digits_block(readings: &mut [u32], n: u32, mark: u32) -> Block
     digit_singles(&table, readings, n, mark)
 }
 
-// The most readings of a block: n, or 65,536 where n is more.
-fn at_most_block(n: usize) -> usize
+// Method 4 with a tail or none: with none, nothing is added.
+fn rounded_singles(readings: &mut [u32], tail: single::Tail, mark: u32) -> loops::Sums
+    requires { ⌜ (TailOf 23 (constantsOf tail)) × (length (now readings) ≤ 65536) ⌝ }
+    ensures sums { λ r. ⌜ sumsOf r ≡ tallied (settledBy 23 8 (round (23 - tail .bits)) mark 0) (now (readings .entry)) ⌝ }
+    ensures content { λ _. ⌜ now (readings .exit) ≡ walked (settledBy 23 8 (round (23 - tail .bits)) mark 0) (now (readings .entry)) ⌝ }
+{
+    if tail.bits == 0 {
+        return tail_singles(readings, tail, 0, mark);
+    }
+    round_singles(readings, tail, mark)
+}
+
+// Method 5 with the unit 2^q: by the float adder where it serves.
+fn step_singles(readings: &mut [u32], q: u32, mark: u32) -> loops::Sums
+    requires { ⌜ length (now readings) ≤ 65536 ⌝ }
+    ensures sums { λ r. ⌜ sumsOf r ≡ tallied (settledBy 23 8 (absolute q) mark 0) (now (readings .entry)) ⌝ }
+    ensures content { λ _. ⌜ now (readings .exit) ≡ walked (settledBy 23 8 (absolute q) mark 0) (now (readings .entry)) ⌝ }
+{
+    if 24 <= q {
+        if q <= 252 {
+            return fine_singles(readings, q, mark);
+        }
+    }
+    coarse_singles(readings, q, mark)
+}
+
+// ---- any method, by what is worked out once for an array
+
+// A trim as the loops get it: the method's number, its natural setting, and its tail.
+pub struct Job {
+    pub method: u32,
+    pub n: u32,
+    pub tail: single::Tail,
+}
+
+// The trim by a method's number and its natural setting. Methods 5 and 6 have no tail.
+pub fn job_single(method: u32, n: u32) -> Job
+    requires { ⌜ Fitting method n 23 7 ⌝ }
+    ensures method { λ r. ⌜ r .method ≡ method ⌝ }
+    ensures setting { λ r. ⌜ r .n ≡ n ⌝ }
+    ensures tail { λ r. ⌜ Suits 23 7 (r .method) (r .n) (constantsOf (r .tail)) ⌝ }
+{
+    if method <= 4 {
+        let tail = single::tail_of(n);
+        return Job { method, n, tail };
+    }
+    let tail = single::tail_of(23);
+    Job { method, n, tail }
+}
+
+// What methods 0, 1 and 3 put into every tail: nothing, all ones, or a one and zeros.
+fn add_single(method: u32, tail: single::Tail) -> u32
+    ensures { λ r. ⌜ r ≡ addBy method (constantsOf tail) ⌝ }
+{
+    if method == 1 {
+        return tail.ones;
+    }
+    if method == 3 {
+        return tail.half;
+    }
+    0
+}
+
+// A block by any method but grooming.
+fn plain_singles(readings: &mut [u32], job: Job, mark: u32) -> loops::Sums
+    requires { ⌜ (Suits 23 7 (job .method) (job .n) (constantsOf (job .tail))) × (job .method ≢ 2) × (length (now readings) ≤ 65536) ⌝ }
+    ensures sums { λ r. ⌜ sumsOf r ≡ tallied (settledBy 23 8 (methodBy (job .method) (job .n)) mark 0) (now (readings .entry)) ⌝ }
+    ensures content { λ _. ⌜ now (readings .exit) ≡ walked (settledBy 23 8 (methodBy (job .method) (job .n)) mark 0) (now (readings .entry)) ⌝ }
+{
+    if job.method == 6 {
+        return digits_block(readings, job.n, mark);
+    }
+    if job.method == 5 {
+        return step_singles(readings, job.n, mark);
+    }
+    let tail = job.tail;
+    if job.method == 4 {
+        return rounded_singles(readings, tail, mark);
+    }
+    let add = add_single(job.method, tail);
+    tail_singles(readings, tail, add, mark)
+}
+
+// A part of an array, where grooming puts `add` into the first tail.
+pub fn part_singles(readings: &mut [u32], job: Job, add: u32, mark: u32) -> Part
+    requires { ⌜ (Suits 23 7 (job .method) (job .n) (constantsOf (job .tail))) × (add ≤ job .tail .ones) × (length (now readings) ≤ 65536) ⌝ }
+    ensures sums { λ r. ⌜ sumsOf (r .sums) ≡ talliedBy (nextWith 23 (job .method) (job .n)) (settledWith 23 8 (job .method) (job .n) mark) add (now (readings .entry)) ⌝ }
+    ensures add { λ r. ⌜ r .add ≡ stateAt (nextWith 23 (job .method) (job .n)) add (now (readings .entry)) (length (now (readings .entry))) ⌝ }
+    ensures content { λ _. ⌜ now (readings .exit) ≡ walkedBy (nextWith 23 (job .method) (job .n)) (settledWith 23 8 (job .method) (job .n) mark) add (now (readings .entry)) ⌝ }
+{
+    if job.method == 2 {
+        let tail = job.tail;
+        return groom_singles(readings, tail, add, mark);
+    }
+    let sums = plain_singles(readings, job, mark);
+    Part { sums, add }
+}
+
+// The most readings of a part: n, or 65,536 where n is more.
+fn at_most_part(n: usize) -> usize
     ensures { λ r. ⌜ r ≡ min n 65536 ⌝ }
 {
     if n < 65536 { n } else { 65536 }
 }
 
-// How the singles of an array are trimmed. kind 0: methods 0 to 3, the tail of t bits becomes `even` or `odd`; kind 1: method 4 with a tail of t bits, not none;
-// kind 2: method 5 with the unit 2^q, by the float adder; kind 3: method 6 with q digits; any other kind: method 5 with the unit 2^q.
-pub struct Plan {
-    pub kind: u32,
-    pub t: u32,
-    pub even: u32,
-    pub odd: u32,
-    pub q: u32,
-}
-
-// One block by its plan.
-fn block_singles(readings: &mut [u32], plan: Plan, mark: u32) -> Block
-    requires { ⌜ (Sound plan) × (length (now readings) ≤ 65536) ⌝ }
-    ensures sums { λ r. ⌜ r ≡ singlesSummed (planned plan mark) (now (readings .entry)) ⌝ }
-    ensures content { λ _. ⌜ now (readings .exit) ≡ singlesLeft (planned plan mark) (now (readings .entry)) ⌝ }
+// A whole array, part by part: what grooming puts into the next tail goes on from part to part.
+fn all_singles(readings: &mut [u32], job: Job, mark: u32) -> loops::Totals
+    requires { ⌜ Suits 23 7 (job .method) (job .n) (constantsOf (job .tail)) ⌝ }
+    ensures sums { λ r. ⌜ totalsOf r ≡ talliedBy (nextWith 23 (job .method) (job .n)) (settledWith 23 8 (job .method) (job .n) mark) 0 (now (readings .entry)) ⌝ }
+    ensures content { λ _. ⌜ now (readings .exit) ≡ walkedBy (nextWith 23 (job .method) (job .n)) (settledWith 23 8 (job .method) (job .n) mark) 0 (now (readings .entry)) ⌝ }
 {
-    if plan.kind == 0 {
-        return tail_singles(readings, plan.t, plan.even, plan.odd, mark);
-    }
-    if plan.kind == 1 {
-        return round_singles(readings, plan.t, mark);
-    }
-    if plan.kind == 2 {
-        return fine_singles(readings, plan.q, mark);
-    }
-    if plan.kind == 3 {
-        return digits_block(readings, plan.q, mark);
-    }
-    coarse_singles(readings, plan.q, mark)
-}
-
-// A whole array by its plan, block by block.
-fn plan_singles(readings: &mut [u32], plan: Plan, mark: u32) -> loops::Totals
-    requires { ⌜ Sound plan ⌝ }
-    ensures sums { λ r. ⌜ r ≡ singlesTotal (planned plan mark) (now (readings .entry)) ⌝ }
-    ensures content { λ _. ⌜ now (readings .exit) ≡ singlesLeft (planned plan mark) (now (readings .entry)) ⌝ }
-{
-    let mut changed: u64 = 0;
-    let mut marked: u64 = 0;
-    let mut clipped: u64 = 0;
-    let mut missing: u64 = 0;
+    let mut totals = loops::Totals::new();
+    let mut add: u32 = 0;
     let mut a: usize = 0;
     while a < readings.len() {
-        let e = a + at_most_block(readings.len() - a);
-        let block = block_singles(&mut readings[a..e], plan, mark);
-        changed += loops::wide(block.changed);
-        marked += loops::wide(block.marked);
-        clipped += loops::wide(block.clipped);
-        missing += loops::wide(block.missing);
+        let e = a + at_most_part(readings.len() - a);
+        let part = part_singles(&mut readings[a..e], job, add, mark);
+        let sums = part.sums;
+        totals = totals.join(sums);
+        add = part.add;
         a = e;
     }
-    loops::Totals {
-        changed,
-        marked,
-        clipped,
-        missing,
-    }
-}
-
-// What methods 0 to 3 put into the tail of t bits at even places: all ones, a one and zeros, or nothing.
-fn even_single(method: u32, t: u32) -> u32
-    requires { ⌜ t ≤ 23 ⌝ }
-    ensures { λ r. ⌜ r ≡ evenBy method t ⌝ }
-{
-    if method == 1 {
-        return single::power_single(t) - 1;
-    }
-    if method == 3 {
-        return half_single(t);
-    }
-    0
-}
-
-// And at odd places.
-fn odd_single(method: u32, t: u32) -> u32
-    requires { ⌜ t ≤ 23 ⌝ }
-    ensures { λ r. ⌜ r ≡ oddBy method t ⌝ }
-{
-    if method == 2 {
-        return single::power_single(t) - 1;
-    }
-    even_single(method, t)
-}
-
-// Half a unit of t bits, and nothing where t is 0.
-fn half_single(t: u32) -> u32
-    requires { ⌜ t ≤ 23 ⌝ }
-    ensures { λ r. ⌜ r ≡ halfUnit t ⌝ }
-{
-    if t == 0 {
-        return 0;
-    }
-    single::power_single(t - 1)
-}
-
-// The plan of a method for singles, by its number and its natural setting.
-fn plan_single(method: u32, n: u32) -> Plan
-    requires { ⌜ Fitting method n 23 7 ⌝ }
-    ensures { λ r. ⌜ Plans method n r ⌝ }
-{
-    if method == 6 {
-        return Plan {
-            kind: 3,
-            t: 0,
-            even: 0,
-            odd: 0,
-            q: n,
-        };
-    }
-    if method == 5 {
-        return step_plan(n);
-    }
-    if method == 4 {
-        return round_plan(23 - n);
-    }
-    let t = 23 - n;
-    let even = even_single(method, t);
-    let odd = odd_single(method, t);
-    Plan {
-        kind: 0,
-        t,
-        even,
-        odd,
-        q: 0,
-    }
-}
-
-// The plan of method 4 with a tail of t bits: with no tail, nothing is added to it.
-fn round_plan(t: u32) -> Plan
-    requires { ⌜ t ≤ 23 ⌝ }
-    ensures { λ r. ⌜ Plans 4 (23 - t) r ⌝ }
-{
-    if t == 0 {
-        return Plan {
-            kind: 0,
-            t: 0,
-            even: 0,
-            odd: 0,
-            q: 0,
-        };
-    }
-    Plan {
-        kind: 1,
-        t,
-        even: 0,
-        odd: 0,
-        q: 0,
-    }
-}
-
-// The plan of method 5 with the unit 2^q: by the float adder where it serves.
-fn step_plan(q: u32) -> Plan
-    ensures { λ r. ⌜ Plans 5 q r ⌝ }
-{
-    if 24 <= q {
-        if q <= 252 {
-            return Plan {
-                kind: 2,
-                t: 0,
-                even: 0,
-                odd: 0,
-                q,
-            };
-        }
-    }
-    Plan {
-        kind: 4,
-        t: 0,
-        even: 0,
-        odd: 0,
-        q,
-    }
+    totals
 }
 
 // Singles by a method's number and its natural setting.
 pub fn method_singles(readings: &mut [u32], method: u32, n: u32, mark: u32) -> loops::Totals
     requires { ⌜ Fitting method n 23 7 ⌝ }
-    ensures sums { λ r. ⌜ r ≡ singlesTotal (λ i w. singleBy (methodBy method n) mark i w) (now (readings .entry)) ⌝ }
-    ensures content { λ _. ⌜ now (readings .exit) ≡ singlesLeft (λ i w. singleBy (methodBy method n) mark i w) (now (readings .entry)) ⌝ }
+    ensures sums { λ r. ⌜ totalsOf r ≡ talliedBy (placeAfter 23 8 mark) (settledBy 23 8 (methodBy method n) mark) 0 (now (readings .entry)) ⌝ }
+    ensures content { λ _. ⌜ now (readings .exit) ≡ walkedBy (placeAfter 23 8 mark) (settledBy 23 8 (methodBy method n) mark) 0 (now (readings .entry)) ⌝ }
 {
-    let plan = plan_single(method, n);
-    plan_singles(readings, plan, mark)
+    let job = job_single(method, n);
+    all_singles(readings, job, mark)
 }
 
-// One single by its plan, at a place.
-fn planned_single(plan: Plan, x: u32, place: u64, mark: u32) -> single::Single
-    requires { ⌜ Sound plan ⌝ }
-    ensures { λ r. ⌜ r ≡ planned plan mark place x ⌝ }
+// ---- the loader's one reading
+
+// One single by any method but grooming.
+fn plain_single(x: u32, job: Job, mark: u32) -> single::Single
+    requires { ⌜ (Suits 23 7 (job .method) (job .n) (constantsOf (job .tail))) × (job .method ≢ 2) ⌝ }
+    ensures { λ r. ⌜ settledOf r ≡ settledBy 23 8 (methodBy (job .method) (job .n)) mark 0 x ⌝ }
 {
-    if plan.kind == 0 {
-        let add = single_at(place as usize, plan.even, plan.odd);
-        return single::tail_single(x, plan.t, add, mark);
-    }
-    if plan.kind == 1 {
-        return single::round_single(x, plan.t, mark);
-    }
-    if plan.kind == 3 {
+    if job.method == 6 {
         let table = powers::POWERS;
-        return single::digit_single(&table, x, plan.q, mark);
+        return single::digit_single(&table, x, job.n, mark);
     }
-    single::coarse_single(x, plan.q, mark)
+    if job.method == 5 {
+        return single::coarse_single(x, job.n, mark);
+    }
+    let tail = job.tail;
+    if job.method == 4 {
+        return rounded_single(x, tail, mark);
+    }
+    let add = add_single(job.method, tail);
+    single::tail_single(x, tail, add, mark)
+}
+
+// One single by method 4 with a tail or none.
+fn rounded_single(x: u32, tail: single::Tail, mark: u32) -> single::Single
+    requires { ⌜ TailOf 23 (constantsOf tail) ⌝ }
+    ensures { λ r. ⌜ settledOf r ≡ settledBy 23 8 (round (23 - tail .bits)) mark 0 x ⌝ }
+{
+    if tail.bits == 0 {
+        return single::tail_single(x, tail, 0, mark);
+    }
+    single::round_single(x, tail, mark)
 }
 
 // One single by a method's number and its natural setting, at a place.
 pub fn method_single(x: u32, method: u32, n: u32, mark: u32, place: u64) -> single::Single
     requires { ⌜ Fitting method n 23 7 ⌝ }
-    ensures { λ r. ⌜ r ≡ singleBy (methodBy method n) mark place x ⌝ }
+    ensures { λ r. ⌜ settledOf r ≡ settledBy 23 8 (methodBy method n) mark place x ⌝ }
 {
-    let plan = plan_single(method, n);
-    planned_single(plan, x, place, mark)
+    let job = job_single(method, n);
+    if job.method == 2 {
+        let tail = job.tail;
+        let add = single::choose_single((place % 2) as u32, 0, 0, tail.ones);
+        return single::tail_single(x, tail, add, mark);
+    }
+    plain_single(x, job, mark)
 }

@@ -1,4 +1,4 @@
--- Where the reading is finite the new magnitude is the definition's; the rest is `double-by`.
+-- Where the reading is finite the new magnitude is the definition's; the rest is `settled-by`.
 use mathlib.Core.Path.{sym, ap, _∙_, subst}
 use Prim.Native.Nat.{ℕ, _%_, _^_, _<_}
 use native.Mathlib.Nat.{le-refl}
@@ -10,7 +10,7 @@ use Rattle.meaning.specs.Methods.{absolute, newMagnitude, clips}
 use Rattle.meaning.proofs.OneReading.{new-below}
 use Rattle.reading.specs.Left.{over}
 use Rattle.reading.proofs.Words.{chosen-lt, finite-or-zero}
-use Rattle.double.proofs.Bys.{double-by}
+use Rattle.reading.proofs.Settled.{settled-by}
 use Rattle.double.proofs.coarse_double.Statement.{statement}
 use Rattle.double.proofs.coarse_double.Tie as tie
 
@@ -55,7 +55,7 @@ returns c =
     let g = c .before .before .before in
     let same = finite-or-zero m (infinity 52 11) (g .before .below-double .result) (g .before .below-double .ensures) in
     c .settle-double .ensures
-    ∙ double-by (absolute (s .q)) (s .mark) (s .x) (g .coarse-double .result .magnitude) (g .coarse-double .result .clipped) (c .before .below-double2 .result)
+    ∙ settled-by 52 11 (absolute (s .q)) (s .mark) (s .x) (g .coarse-double .result .magnitude) (g .coarse-double .result .clipped) (c .before .below-double2 .result)
     (λ f. g .coarse-double .ensures .0 ∙ ap (λ (a : ℕ). newMagnitude 52 11 (absolute (s .q)) 0 a) (same f))
     (λ f. g .coarse-double .ensures .1 ∙ ap (λ (a : ℕ). cond (clips 52 11 (absolute (s .q)) a) 1 0) (same f))
     (c .before .below-double2 .ensures)

@@ -1,4 +1,4 @@
--- Where the reading is finite the new magnitude is the definition's, by `digits-word`; the rest is `single-by`.
+-- Where the reading is finite the new magnitude is the definition's, by `digits-word`; the rest is `settled-by`.
 use mathlib.Core.Path.{sym, _∙_, subst}
 use Prim.Native.Nat.{ℕ, _%_, _^_, _<_}
 use native.Mathlib.Omega.{arith}
@@ -7,7 +7,7 @@ use Rattle.meaning.specs.Readings.{magnitude, infinity}
 use Rattle.meaning.specs.Methods.{digits}
 use Rattle.meaning.proofs.OneReading.{new-below}
 use Rattle.reading.proofs.Words.{cond-lt, any-magnitude, some-magnitude, digits-word, digits-over}
-use Rattle.single.proofs.Bys.{single-by}
+use Rattle.reading.proofs.Settled.{settled-by}
 use Rattle.single.proofs.digit_single.Statement.{statement}
 use Rattle.single.proofs.digit_single.Tie as tie
 
@@ -72,7 +72,7 @@ returns c =
     let h = c .before .before .before .halfshave-single in
     let k = c .before .before .choose-single2 in
     c .settle-single .ensures
-    ∙ single-by (digits (s .n)) (s .mark) (s .x) (k .result) 0 (c .before .below-single2 .result)
+    ∙ settled-by 23 8 (digits (s .n)) (s .mark) (s .x) (k .result) 0 (c .before .below-single2 .result)
     (digits-word 23 8 (s .n) m (a .result) (t .result) (h .result) (k .result) (some-magnitude m (infinity 23 8) (b .result) (a .result) two (b .ensures) (a .ensures))
     (t .ensures .1) (h .ensures) (k .ensures))
     (λ f. digits-over 23 8 (s .n) (s .x)) (c .before .below-single2 .ensures)

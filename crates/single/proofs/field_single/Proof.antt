@@ -1,11 +1,11 @@
--- The mask's laws at each step; the rest is `single-by`.
+-- The mask's laws at each step; the rest is `settled-by`.
 use mathlib.Core.Path.{refl, _∙_}
 use Prim.Native.Nat.{_<_}
 use native.Mathlib.Omega.{arith}
 use Rattle.meaning.specs.Readings.{magnitude}
 use Rattle.meaning.specs.Methods.{digits, newMagnitude}
 use Rattle.reading.proofs.Words.{digits-over}
-use Rattle.single.proofs.Bys.{single-by}
+use Rattle.reading.proofs.Settled.{settled-by}
 use Rattle.single.proofs.Fields.{second-few, rest-le, ones-fit, new-fits, new-is}
 use borrow.Author.Needs.{needs}
 use Rattle.single.proofs.field_single.Statement.{statement}
@@ -74,7 +74,7 @@ returns c =
     let s = c .before .before .before .before in
     let d = c .before .before .decade-single in
     c .settle-single .ensures
-    ∙ single-by (digits (s .args .n)) (s .args .mark) (s .args .x) (newMagnitude 23 8 (digits (s .args .n)) 0 (magnitude 23 8 (s .args .x))) 0 _
+    ∙ settled-by 23 8 (digits (s .args .n)) (s .args .mark) (s .args .x) (newMagnitude 23 8 (digits (s .args .n)) 0 (magnitude 23 8 (s .args .x))) 0 _
     (λ _. refl) (λ _. digits-over 23 8 (s .args .n) (s .args .x))
     (new-is (s .args .n) (s .args .x) (d .result) (s .args .limits .now) (s .args .masks .now)
     (s .pre .0 .0) (s .pre .0 .1) (s .pre .1) (s .pre .2) (omega arith) (d .ensures) (s .pre .3))

@@ -1,4 +1,4 @@
--- Where the reading is finite the new magnitude is the definition's; the rest is `single-by`.
+-- Where the reading is finite the new magnitude is the definition's; the rest is `settled-by`.
 use mathlib.Core.Path.{refl, sym, ap, _∙_, subst}
 use Prim.Native.Nat.{ℕ, _%_, _^_, _<_}
 use native.Mathlib.Nat.{le-refl}
@@ -10,7 +10,7 @@ use Rattle.meaning.proofs.OneReading.{new-below}
 use Rattle.absolute.proofs.Clip.{never-clips}
 use Rattle.reading.specs.Left.{over}
 use Rattle.reading.proofs.Words.{chosen-lt, finite-or-zero}
-use Rattle.single.proofs.Bys.{single-by}
+use Rattle.reading.proofs.Settled.{settled-by}
 use Rattle.single.proofs.fine_single.Statement.{statement}
 use Rattle.single.proofs.fine_single.Tie as tie
 
@@ -55,7 +55,7 @@ returns c =
     let g = c .before .before in
     let same = finite-or-zero m (infinity 23 8) (g .before .below-single .result) (g .before .below-single .ensures) in
     c .settle-single .ensures
-    ∙ single-by (absolute (s .q)) (s .mark) (s .x) (g .fine-single .result) 0 (c .before .below-single2 .result)
+    ∙ settled-by 23 8 (absolute (s .q)) (s .mark) (s .x) (g .fine-single .result) 0 (c .before .below-single2 .result)
     (λ f. g .fine-single .ensures ∙ ap (λ (a : ℕ). newMagnitude 23 8 (absolute (s .q)) 0 a) (same f))
     (λ f. rw (never-clips 23 8 (s .q) m (omega arith) f) refl)
     (c .before .below-single2 .ensures)

@@ -1,7 +1,7 @@
 -- The pattern and the mark's count by `left-from`; each other choice is what the definition says.
 use mathlib.Core.Path.{_∙_}
-use Rattle.single.specs.Left.{singleFrom}
-use Rattle.single.proofs.Settled.{left-from}
+use Rattle.reading.specs.Left.{settledFrom}
+use Rattle.reading.proofs.Settled.{left-from}
 use Rattle.single.proofs.settle_single.Statement.{statement}
 use Rattle.single.proofs.settle_single.Tie as tie
 
@@ -24,7 +24,7 @@ choose-single-requires-6 : tie.Need-choose-single-requires-6
 choose-single-requires-6 c κs = tt
 
 returns : tie.Need-returns
-unfolding singleFrom
+unfolding settledFrom
 returns c =
     let s = c .before .before .before .before .before .before .args in
     let hit = c .before .before .before .before .before .choose-single in

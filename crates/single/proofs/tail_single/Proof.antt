@@ -1,47 +1,33 @@
--- The new pattern is the definition's by `tail-word`; the cut and the new tail have room.
-use mathlib.Core.Path.{ap, _∙_}
-use Prim.Native.Nat.{ℕ}
-use native.Mathlib.Omega.{arith}
+-- The new pattern is the definition's by `tail-cut`; the cut and the new tail have room.
 use borrow.Author.Needs.{needs}
+use mathlib.Core.Path.{ap, _∙_}
+use Prim.Native.Nat.{ℕ, _+_, _-_, _<_, _^_}
+use native.Mathlib.Omega.{arith}
+use lib.Bits.{bitAnd, and-le-l}
 use lib.Pow.{pow-pos}
 use Rattle.meaning.specs.Readings.{magnitude}
-use Rattle.single.specs.Left.{singleFrom}
-use Rattle.reading.proofs.Words.{cut-room, tail-word}
+use Rattle.reading.proofs.Words.{floor-room}
+use Rattle.reading.specs.Left.{settledFrom, settledTail}
+use Rattle.reading.proofs.Tails.{mask-cut, tail-cut}
 use Rattle.single.proofs.tail_single.Statement.{statement}
 use Rattle.single.proofs.tail_single.Tie as tie
 
-power-single-requires : tie.Need-power-single-requires
-power-single-requires c κs = omega arith
-
-floor-single-requires : tie.Need-floor-single-requires
-floor-single-requires c κs = omega (arith, pow-pos (c .before .args .t), c .power-single .ensures)
-
-add-choose-single : tie.Need-add-choose-single
-add-choose-single c =
+add-y : tie.Need-add-y
+add-y c =
     let s = c .before .before in
-    omega (
-      arith,
-      cut-room 32 (s .args .t) (s .args .x) (s .args .add) (c .before .power-single .result) (c .floor-single .result)
-          (omega arith) (search needs) (omega arith) (c .before .power-single .ensures) (c .floor-single .ensures),
-    )
-
-choose-single-requires : tie.Need-choose-single-requires
-choose-single-requires c κs = tt
-
-below-single-requires : tie.Need-below-single-requires
-below-single-requires c κs = tt
-
-settle-single-requires : tie.Need-settle-single-requires
-settle-single-requires c κs = tt
+    let t = s .args .tail .bits in
+    let ones = s .pre .0 .is-ones in
+    let few : c .unless-zero .result < 2 ^ t = omega (arith, c .unless-zero .ensures .1, ones, pow-pos t) in
+    omega (arith, mask-cut t (s .args .x) (s .args .tail .ones) ones, floor-room 32 t (s .args .x) (c .unless-zero .result) (omega arith) (search needs) few)
 
 returns : tie.Need-returns
-unfolding magnitude
+unfolding settledTail magnitude
 returns c =
-    let s = c .before .before .before .before .before in
+    let s = c .before .before .before .before in
     c .settle-single .ensures
-    ∙ ap (λ (z : ℕ). singleFrom (s .args .mark) (s .args .x) z 0)
-    (tail-word 23 8 (s .args .x) (s .args .t) (s .args .add) (c .before .before .before .before .power-single .result) (c .before .before .before .floor-single .result) (omega arith)
-    (c .before .before .before .before .power-single .ensures) (c .before .before .before .floor-single .ensures) (c .before .before .choose-single .result) (c .before .below-single .result) (c .before .before .choose-single .ensures) (c .before .below-single .ensures))
+    ∙ ap (λ (z : ℕ). settledFrom (s .args .mark) (s .args .x) z 0)
+    (tail-cut 23 8 (s .args .x) (s .args .tail .bits) (s .args .add) (s .args .tail .ones) _ (c .before .below-single .result) (omega arith) (s .pre .0 .is-ones)
+    (ap (λ (n : ℕ). s .args .x - bitAnd (s .args .x) (s .args .tail .ones) + n) (c .before .before .unless-zero .ensures .0)) (c .before .below-single .ensures))
 
 pub tail-single-spec : {M : Type 1} → statement M
-tail-single-spec = tie.close (tie.spec power-single-requires floor-single-requires add-choose-single choose-single-requires below-single-requires settle-single-requires returns)
+tail-single-spec = tie.close (tie.spec (λ c. omega (arith, and-le-l (c .before .args .x) (c .before .args .tail .ones))) (λ c κs. tt) add-y (λ c κs. tt) (λ c κs. tt) returns)

@@ -1,82 +1,23 @@
--- The walk's laws at each turn; what one reading counts for fits its counter.
+-- The walk's laws at each turn.
 use borrow.Author.Needs.{needs}
-use mathlib.Core.Path.{subst, sym}
+use mathlib.Core.Path.{refl}
 use Prim.Native.Nat.{_-_}
 use native.Mathlib.Omega.{arith}
 use lib.ListN.{length}
 use Rattle.meaning.specs.Methods.{digits}
-use Rattle.single.specs.Left.{singleBy}
-use Rattle.singles.proofs.Few.{SingleTurn, few-single-by, FewSingle, single-start, single-turn, single-finish}
+use Rattle.reading.specs.Left.{settledBy}
+use Rattle.loops.specs.Tallies.{sumsOf}
+use Rattle.loops.specs.Walk.{stays}
+use Rattle.loops.proofs.Tallies.{one-by}
+use Rattle.loops.proofs.Walks.{Walk, begin, room, step, end}
 use Rattle.singles.proofs.digit_singles.Statement.{statement}
 use Rattle.singles.proofs.digit_singles.Tie as tie
 
 abbrev Inv-loop : tie.InvT-loop
-Inv-loop table readings₀ n mark changed₀ marked₀ clipped₀ missing₀ i₀ readings changed marked clipped missing i =
-    SingleTurn (λ i w. singleBy (digits (n)) (mark) 0 w) readings₀ readings changed marked clipped missing i
+Inv-loop table readings₀ n mark sums₀ i₀ readings sums i = Walk stays (λ s w. settledBy 23 8 (digits n) mark 0 w) 0 readings₀ readings (sumsOf sums) 0 i
 
 abbrev μ-loop : tie.MeasureT-loop
-μ-loop table readings₀ n mark changed₀ marked₀ clipped₀ missing₀ i₀ readings changed marked clipped missing i = length readings₀ - i
-
-loop-holds : tie.Need-loop-holds Inv-loop μ-loop
-loop-holds c =
-    let s = c .before .args in
-    single-start (λ i w. singleBy (digits (s .n)) (s .mark) 0 w) (λ i w. few-single-by (digits (s .n)) (s .mark) 0 w) (s .readings .now)
-
-mul-digit-single : tie.Need-mul-digit-single Inv-loop μ-loop
-mul-digit-single c = omega arith
-
-slice-read-digit-single : tie.Need-slice-read-digit-single Inv-loop μ-loop
-slice-read-digit-single c = omega arith
-
-digit-single-requires : tie.Need-digit-single-requires Inv-loop μ-loop
-digit-single-requires c κs = let p = c .before .before .before .before .pre in (p .0, p .2)
-
-mul-readings : tie.Need-mul-readings Inv-loop μ-loop
-mul-readings c = omega arith
-
-slice-write-readings : tie.Need-slice-write-readings Inv-loop μ-loop
-slice-write-readings c = omega arith
-
-one : (c : tie.After-digit-single Inv-loop μ-loop) → FewSingle (c .digit-single .result)
-one c =
-    let s = c .before .before .before .before .before .args in
-    subst FewSingle (sym (c .digit-single .ensures)) (few-single-by (digits (s .n)) (s .mark) 0 _)
-
-add-changed : tie.Need-add-changed Inv-loop μ-loop
-add-changed c = omega (arith, one (c .before) .changed-few)
-
-add-marked : tie.Need-add-marked Inv-loop μ-loop
-add-marked c = omega (arith, one (c .before .before) .marked-few)
-
-add-clipped : tie.Need-add-clipped Inv-loop μ-loop
-add-clipped c = omega (arith, one (c .before .before .before) .clipped-few)
-
-add-missing : tie.Need-add-missing Inv-loop μ-loop
-add-missing c = omega (arith, one (c .before .before .before .before) .missing-few)
-
-add-i : tie.Need-add-i Inv-loop μ-loop
-add-i c = omega arith
-
-loop-less : tie.Need-loop-less Inv-loop μ-loop
-loop-less c = omega arith
-
-loop-again : tie.Need-loop-again Inv-loop μ-loop
-loop-again c =
-    let at = c .before .before .before .before .before .before .before in
-    let s = at .before .before .args in
-    single-turn (λ i w. singleBy (digits (s .n)) (s .mark) 0 w) (λ i w. few-single-by (digits (s .n)) (s .mark) 0 w) (s .readings .now) (at .loop .readings)
-    (at .loop .changed) (at .loop .marked) (at .loop .clipped) (at .loop .missing) (at .loop .i) (at .loop .inv) (omega arith)
-    (c .before .before .before .before .digit-single .result) (c .before .before .before .before .digit-single .ensures)
-
-same-length : tie.Need-same-length Inv-loop μ-loop
-same-length c = search needs
-
-returns : tie.Need-returns Inv-loop μ-loop
-returns c =
-    let at = c .before in
-    let s = at .before .before .args in
-    single-finish (λ i w. singleBy (digits (s .n)) (s .mark) 0 w) (λ i w. few-single-by (digits (s .n)) (s .mark) 0 w) (s .readings .now) (at .loop .readings)
-    (at .loop .changed) (at .loop .marked) (at .loop .clipped) (at .loop .missing) (at .loop .i) (at .loop .inv) (omega arith)
+μ-loop table readings₀ n mark sums₀ i₀ readings sums i = length readings₀ - i
 
 pub digit-singles-spec : {M : Type 1} → statement M
 digit-singles-spec =
@@ -84,18 +25,16 @@ digit-singles-spec =
     (tie.spec
     Inv-loop
     μ-loop
-    loop-holds
-    mul-digit-single
-    slice-read-digit-single
-    digit-single-requires
-    mul-readings
-    slice-write-readings
-    add-changed
-    add-marked
-    add-clipped
-    add-missing
-    add-i
-    loop-less
-    loop-again
-    same-length
-    returns)
+    (λ c κs. tt)
+    (λ c. begin (λ s w. one-by 23 8 (digits _) _ 0 w) (c .new .ensures))
+    (λ c. omega arith)
+    (λ c. omega arith)
+    (λ c κs. search needs)
+    (λ c. omega arith)
+    (λ c. omega arith)
+    (λ c κs. room (c .before .before .before .loop .inv) (omega arith) (c .digit-single .ensures))
+    (λ c. omega arith)
+    (λ c. omega arith)
+    (λ c. step (c .before .before .before .before .loop .inv) (omega arith) (c .before .digit-single .ensures) (c .plus .ensures) refl)
+    (λ c. search needs)
+    (λ c. end (c .before .loop .inv) (omega arith)))

@@ -1,90 +1,24 @@
--- The walk's laws at each turn; what one reading counts for fits its counter. The readings that are left are not subnormal.
+-- The walk's laws at each turn. The readings that are left are not subnormal.
 use borrow.Author.Needs.{needs}
-use mathlib.Core.Path.{subst, sym}
+use mathlib.Core.Path.{refl}
 use Prim.Native.Nat.{_-_}
 use native.Mathlib.Omega.{arith}
 use lib.ListN.{length}
 use Rattle.meaning.specs.Methods.{digits}
-use Rattle.single.specs.Left.{singleBy}
+use Rattle.reading.specs.Left.{settledBy}
+use Rattle.loops.specs.Tallies.{sumsOf}
+use Rattle.loops.specs.Walk.{stays}
+use Rattle.loops.proofs.Tallies.{one-by}
+use Rattle.loops.proofs.Walks.{Walk, begin, room, step, end}
 use Rattle.singles.proofs.Rest.{Rest, rest-turn}
-use Rattle.singles.proofs.Few.{SingleTurn, few-single-by, FewSingle, single-start, single-turn, single-finish}
 use Rattle.singles.proofs.field_singles.Statement.{statement}
 use Rattle.singles.proofs.field_singles.Tie as tie
 
 abbrev Inv-loop : tie.InvT-loop
-Inv-loop limits masks readings₀ n mark changed₀ marked₀ clipped₀ missing₀ i₀ readings changed marked clipped missing i =
-    SingleTurn (λ i w. singleBy (digits n) mark 0 w) readings₀ readings changed marked clipped missing i × Rest readings i
+Inv-loop limits masks readings₀ n mark sums₀ i₀ readings sums i = Walk stays (λ s w. settledBy 23 8 (digits n) mark 0 w) 0 readings₀ readings (sumsOf sums) 0 i × Rest readings i
 
 abbrev μ-loop : tie.MeasureT-loop
-μ-loop limits masks readings₀ n mark changed₀ marked₀ clipped₀ missing₀ i₀ readings changed marked clipped missing i = length readings₀ - i
-
-loop-holds : tie.Need-loop-holds Inv-loop μ-loop
-loop-holds c =
-    let s = c .before .args in (
-      single-start (λ i w. singleBy (digits (s .n)) (s .mark) 0 w) (λ i w. few-single-by (digits (s .n)) (s .mark) 0 w) (s .readings .now),
-      λ k _. c .before .pre .4 k,
-    )
-
-mul-field-single : tie.Need-mul-field-single Inv-loop μ-loop
-mul-field-single c = omega arith
-
-slice-read-field-single : tie.Need-slice-read-field-single Inv-loop μ-loop
-slice-read-field-single c = omega arith
-
-field-single-requires : tie.Need-field-single-requires Inv-loop μ-loop
-field-single-requires c κs =
-    let at = c .before .before in
-    let p = at .before .before .pre in
-    (p .0, p .2, p .3, at .loop .inv .1 (at .loop .i) (omega arith) (omega arith))
-
-mul-readings : tie.Need-mul-readings Inv-loop μ-loop
-mul-readings c = omega arith
-
-slice-write-readings : tie.Need-slice-write-readings Inv-loop μ-loop
-slice-write-readings c = omega arith
-
-one : (c : tie.After-field-single Inv-loop μ-loop) → FewSingle (c .field-single .result)
-one c =
-    let s = c .before .before .before .before .before .args in
-    subst FewSingle (sym (c .field-single .ensures)) (few-single-by (digits (s .n)) (s .mark) 0 _)
-
-add-changed : tie.Need-add-changed Inv-loop μ-loop
-add-changed c = omega (arith, one (c .before) .changed-few)
-
-add-marked : tie.Need-add-marked Inv-loop μ-loop
-add-marked c = omega (arith, one (c .before .before) .marked-few)
-
-add-clipped : tie.Need-add-clipped Inv-loop μ-loop
-add-clipped c = omega (arith, one (c .before .before .before) .clipped-few)
-
-add-missing : tie.Need-add-missing Inv-loop μ-loop
-add-missing c = omega (arith, one (c .before .before .before .before) .missing-few)
-
-add-i : tie.Need-add-i Inv-loop μ-loop
-add-i c = omega arith
-
-loop-less : tie.Need-loop-less Inv-loop μ-loop
-loop-less c = omega arith
-
-loop-again : tie.Need-loop-again Inv-loop μ-loop
-loop-again c =
-    let at = c .before .before .before .before .before .before .before in
-    let s = at .before .before .args in
-    let one = c .before .before .before .before .field-single in (
-      single-turn (λ i w. singleBy (digits (s .n)) (s .mark) 0 w) (λ i w. few-single-by (digits (s .n)) (s .mark) 0 w) (s .readings .now) (at .loop .readings)
-          (at .loop .changed) (at .loop .marked) (at .loop .clipped) (at .loop .missing) (at .loop .i) (at .loop .inv .0) (omega arith) (one .result) (one .ensures),
-      rest-turn (at .loop .readings) (at .loop .i) (one .result .pattern) (at .loop .inv .1),
-    )
-
-same-length : tie.Need-same-length Inv-loop μ-loop
-same-length c = search needs
-
-returns : tie.Need-returns Inv-loop μ-loop
-returns c =
-    let at = c .before in
-    let s = at .before .before .args in
-    single-finish (λ i w. singleBy (digits (s .n)) (s .mark) 0 w) (λ i w. few-single-by (digits (s .n)) (s .mark) 0 w) (s .readings .now) (at .loop .readings)
-    (at .loop .changed) (at .loop .marked) (at .loop .clipped) (at .loop .missing) (at .loop .i) (at .loop .inv .0) (omega arith)
+μ-loop limits masks readings₀ n mark sums₀ i₀ readings sums i = length readings₀ - i
 
 pub field-singles-spec : {M : Type 1} → statement M
 field-singles-spec =
@@ -92,18 +26,21 @@ field-singles-spec =
     (tie.spec
     Inv-loop
     μ-loop
-    loop-holds
-    mul-field-single
-    slice-read-field-single
-    field-single-requires
-    mul-readings
-    slice-write-readings
-    add-changed
-    add-marked
-    add-clipped
-    add-missing
-    add-i
-    loop-less
-    loop-again
-    same-length
-    returns)
+    (λ c κs. tt)
+    (λ c. (begin (λ s w. one-by 23 8 (digits _) _ 0 w) (c .new .ensures), λ k _. c .before .before .pre .4 k))
+    (λ c. omega arith)
+    (λ c. omega arith)
+    (λ c κs.
+    let at = c .before .before .loop in
+    let p = c .before .before .before .before .before .pre in
+    (p .0, p .2, p .3, at .inv .1 (at .i) (omega arith) (omega arith)))
+    (λ c. omega arith)
+    (λ c. omega arith)
+    (λ c κs. room (c .before .before .before .loop .inv .0) (omega arith) (c .field-single .ensures))
+    (λ c. omega arith)
+    (λ c. omega arith)
+    (λ c.
+    let at = c .before .before .before .before .loop in
+    (step (at .inv .0) (omega arith) (c .before .field-single .ensures) (c .plus .ensures) refl, rest-turn (at .readings) (at .i) (c .before .field-single .result .pattern) (at .inv .1)))
+    (λ c. search needs)
+    (λ c. end (c .before .loop .inv .0) (omega arith)))

@@ -1,103 +1,22 @@
--- The walk's laws at each turn; what one reading counts for fits its counter.
-use mathlib.Core.Path.{_≡_, ap, _∙_, subst, sym}
+-- The walk's laws at each turn.
 use borrow.Author.Needs.{needs}
-use Prim.Native.Nat.{ℕ, _-_, _^_, _<_, zero-le}
+use mathlib.Core.Path.{refl}
+use Prim.Native.Nat.{_-_}
 use native.Mathlib.Omega.{arith}
-use lib.ListN.{length, getD}
-use Rattle.meaning.specs.Readings.{magnitude}
-use Rattle.reading.specs.Left.{wanted, tailAdded}
-use Rattle.single.specs.Left.{singleFrom}
-use Rattle.loops.proofs.Few.{add-below}
-use Rattle.singles.specs.Walk.{tailSingle}
-use Rattle.singles.proofs.Few.{SingleTurn, few-single, FewSingle, single-start, single-turn, single-finish}
+use lib.ListN.{length}
+use Rattle.reading.specs.Left.{settledTail}
+use Rattle.loops.specs.Tallies.{sumsOf}
+use Rattle.loops.specs.Walk.{stays}
+use Rattle.loops.proofs.Tallies.{one-tail}
+use Rattle.loops.proofs.Walks.{Walk, begin, room, step, end}
 use Rattle.singles.proofs.tail_singles.Statement.{statement}
 use Rattle.singles.proofs.tail_singles.Tie as tie
 
-few : (t even odd mark i w : ℕ) → FewSingle (tailSingle t even odd mark i w)
-unfolding tailSingle
-few t even odd mark i w = few-single mark w _ 0 zero-le
-
 abbrev Inv-loop : tie.InvT-loop
-Inv-loop readings₀ t even odd mark changed₀ marked₀ clipped₀ missing₀ i₀ readings changed marked clipped missing i =
-    SingleTurn (tailSingle t even odd mark) readings₀ readings changed marked clipped missing i
+Inv-loop readings₀ tail add mark sums₀ i₀ readings sums i = Walk stays (λ s w. settledTail 23 8 (tail .bits) add mark w) 0 readings₀ readings (sumsOf sums) 0 i
 
 abbrev μ-loop : tie.MeasureT-loop
-μ-loop readings₀ t even odd mark changed₀ marked₀ clipped₀ missing₀ i₀ readings changed marked clipped missing i = length readings₀ - i
-
-loop-holds : tie.Need-loop-holds Inv-loop μ-loop
-loop-holds c = single-start (tailSingle _ _ _ _) (few _ _ _ _) _
-
-single-at-requires : tie.Need-single-at-requires Inv-loop μ-loop
-single-at-requires c κs = tt
-
-mul-tail-single : tie.Need-mul-tail-single Inv-loop μ-loop
-mul-tail-single c = omega arith
-
-slice-read-tail-single : tie.Need-slice-read-tail-single Inv-loop μ-loop
-slice-read-tail-single c = omega arith
-
-tail-single-requires : tie.Need-tail-single-requires Inv-loop μ-loop
-tail-single-requires c κs =
-    let s = c .before .before .before .before .before in
-    let i = c .before .before .before .loop .i in
-    (omega arith, subst (λ (n : ℕ). n < 2 ^ s .args .t) (sym (c .before .single-at .ensures)) (add-below (s .args .even) (s .args .odd) i (2 ^ s .args .t) (omega arith) (omega arith)))
-
-mul-readings : tie.Need-mul-readings Inv-loop μ-loop
-mul-readings c = omega arith
-
-slice-write-readings : tie.Need-slice-write-readings Inv-loop μ-loop
-slice-write-readings c = omega arith
-
--- the reading at this turn
-is : (c : tie.After-tail-single Inv-loop μ-loop)
-    → let s = c .before .before .before .before .before .before .args in
-    let at = c .before .before .before .before .loop in
-    c .tail-single .result ≡ tailSingle (s .t) (s .even) (s .odd) (s .mark) (at .i) (getD (at .readings) (at .i) 0)
-unfolding tailSingle
-is c =
-    let s = c .before .before .before .before .before .before .args in
-    let w = getD (c .before .before .before .before .loop .readings) (c .before .before .before .before .loop .i) 0 in
-    c .tail-single .ensures
-    ∙ ap (λ (a : ℕ). singleFrom (s .mark) w (wanted 23 8 w (tailAdded (s .t) a (magnitude 23 8 w))) 0) (c .before .before .single-at .ensures)
-
-one : (c : tie.After-tail-single Inv-loop μ-loop) → FewSingle (c .tail-single .result)
-one c = subst FewSingle (sym (is c)) (few _ _ _ _ _ _)
-
-add-changed : tie.Need-add-changed Inv-loop μ-loop
-add-changed c = omega (arith, one (c .before) .changed-few)
-
-add-marked : tie.Need-add-marked Inv-loop μ-loop
-add-marked c = omega (arith, one (c .before .before) .marked-few)
-
-add-clipped : tie.Need-add-clipped Inv-loop μ-loop
-add-clipped c = omega (arith, one (c .before .before .before) .clipped-few)
-
-add-missing : tie.Need-add-missing Inv-loop μ-loop
-add-missing c = omega (arith, one (c .before .before .before .before) .missing-few)
-
-add-i : tie.Need-add-i Inv-loop μ-loop
-add-i c = omega arith
-
-loop-less : tie.Need-loop-less Inv-loop μ-loop
-loop-less c = omega arith
-
-loop-again : tie.Need-loop-again Inv-loop μ-loop
-loop-again c =
-    let at = c .before .before .before .before .before .before .before .before in
-    let s = at .before .before .args in
-    single-turn (tailSingle (s .t) (s .even) (s .odd) (s .mark)) (few (s .t) (s .even) (s .odd) (s .mark)) (s .readings .now) (at .loop .readings)
-    (at .loop .changed) (at .loop .marked) (at .loop .clipped) (at .loop .missing) (at .loop .i) (at .loop .inv) (omega arith)
-    (c .before .before .before .before .tail-single .result) (is (c .before .before .before .before))
-
-same-length : tie.Need-same-length Inv-loop μ-loop
-same-length c = search needs
-
-returns : tie.Need-returns Inv-loop μ-loop
-returns c =
-    let at = c .before in
-    let s = at .before .before .args in
-    single-finish (tailSingle (s .t) (s .even) (s .odd) (s .mark)) (few (s .t) (s .even) (s .odd) (s .mark)) (s .readings .now) (at .loop .readings)
-    (at .loop .changed) (at .loop .marked) (at .loop .clipped) (at .loop .missing) (at .loop .i) (at .loop .inv) (omega arith)
+μ-loop readings₀ tail add mark sums₀ i₀ readings sums i = length readings₀ - i
 
 pub tail-singles-spec : {M : Type 1} → statement M
 tail-singles-spec =
@@ -105,19 +24,16 @@ tail-singles-spec =
     (tie.spec
     Inv-loop
     μ-loop
-    loop-holds
-    single-at-requires
-    mul-tail-single
-    slice-read-tail-single
-    tail-single-requires
-    mul-readings
-    slice-write-readings
-    add-changed
-    add-marked
-    add-clipped
-    add-missing
-    add-i
-    loop-less
-    loop-again
-    same-length
-    returns)
+    (λ c κs. tt)
+    (λ c. begin (λ s w. one-tail 23 8 _ _ _ w) (c .new .ensures))
+    (λ c. omega arith)
+    (λ c. omega arith)
+    (λ c κs. c .before .before .before .before .before .pre .0)
+    (λ c. omega arith)
+    (λ c. omega arith)
+    (λ c κs. room (c .before .before .before .loop .inv) (omega arith) (c .tail-single .ensures))
+    (λ c. omega arith)
+    (λ c. omega arith)
+    (λ c. step (c .before .before .before .before .loop .inv) (omega arith) (c .before .tail-single .ensures) (c .plus .ensures) refl)
+    (λ c. search needs)
+    (λ c. end (c .before .loop .inv) (omega arith)))

@@ -5,8 +5,9 @@ use Prim.Native.Nat.{_-_}
 use lib.IntN.{ℤ}
 use mir.Facts.{toZ-ofZ}
 use Rattle.asking.specs.Asked.{refusalOf, askedNumber}
+use Rattle.loops.specs.Tallies.{totalsOf}
 use Rattle.trim.specs.Answers.{answerOf}
-use Rattle.trim.proofs.Calls.{refused-call, double-fitting, double-fewer, double-accepted}
+use Rattle.trim.proofs.Calls.{refused-call, double-fitting, fewer-missing, accepted-call}
 use Rattle.trim.proofs.trim_doubles.Statement.{statement}
 use Rattle.trim.proofs.trim_doubles.Tie as tie
 
@@ -36,10 +37,10 @@ sub-t10 c =
     let a = c .before .before .before .before .before .before .before .ask-double in
     let none = c .before .before .before .before .before .if1 .left in
     let m = c .before .before .before .method-doubles in
-    double-fewer (s .args .method) (s .args .setting) (s .args .mark) (s .args .readings .now) (a .result .refusal) (a .result .number)
+    fewer-missing 52 11 (s .args .method) (s .args .setting) (s .args .mark) (a .result .refusal) (a .result .number)
     (a .ensures .0 ∙ ap (λ (z : ℤ). refusalOf 52 11 (s .args .method) z) (toZ-ofZ (s .fits .setting))) none
     (a .ensures .1 ∙ ap (λ (z : ℤ). askedNumber 52 11 (s .args .method) z) (toZ-ofZ (s .fits .setting)))
-    (m .result) (m .ensures .0)
+    (s .args .readings .now) (totalsOf (m .result)) (m .ensures .0)
 
 same-length : tie.Need-same-length
 same-length c = search needs
@@ -51,10 +52,10 @@ returns-2 c =
     let a = c .before .before .before .before .before .before .before .ask-double in
     let none = c .before .before .before .before .before .if1 .left in
     let m = c .before .before .before .method-doubles in
-    double-accepted (s .args .method) (s .args .setting) (s .args .mark) (s .args .readings .now) (a .result .refusal) (a .result .number)
+    accepted-call 52 11 (s .args .method) (s .args .setting) (s .args .mark) (a .result .refusal) (a .result .number)
     (a .ensures .0 ∙ ap (λ (z : ℤ). refusalOf 52 11 (s .args .method) z) (toZ-ofZ (s .fits .setting))) none
     (a .ensures .1 ∙ ap (λ (z : ℤ). askedNumber 52 11 (s .args .method) z) (toZ-ofZ (s .fits .setting)))
-    (m .result) (m .ensures .0) (m .last .0) (m .ensures .1)
+    (s .args .readings .now) (totalsOf (m .result)) (m .ensures .0) (m .last .0) (m .ensures .1)
 
 pub trim-doubles-spec : {M : Type 1} → statement M
 trim-doubles-spec = tie.close (tie.spec ask-double-requires returns method-doubles-requires sub-t10 same-length returns-2)

@@ -5,6 +5,7 @@ use native.Mathlib.Omega.{arith}
 use lib.IntN.{ℤ}
 use mir.Facts.{toZ-ofZ}
 use Rattle.asking.specs.Asked.{refusalOf, askedNumber}
+use Rattle.single.specs.Left.{settledOf}
 use Rattle.trim.proofs.Calls.{single-fitting}
 use Rattle.trim.proofs.Loader.{refused-loader, accepted-loader}
 use Rattle.trim.proofs.trim_single.Statement.{statement}
@@ -47,7 +48,7 @@ returns-2 c =
     c .wide2 .ensures
     ∙ accepted-loader (s .args .method) (s .args .setting) (s .args .mark) (s .args .place) (s .args .x) (a .result .refusal)
     (a .ensures .0 ∙ ap (λ (z : ℤ). refusalOf 23 8 (s .args .method) z) (toZ-ofZ (s .fits .setting))) none (a .result .number)
-    (a .ensures .1 ∙ ap (λ (z : ℤ). askedNumber 23 8 (s .args .method) z) (toZ-ofZ (s .fits .setting))) (c .before .method-single .result) (c .before .method-single .ensures)
+    (a .ensures .1 ∙ ap (λ (z : ℤ). askedNumber 23 8 (s .args .method) z) (toZ-ofZ (s .fits .setting))) (settledOf (c .before .method-single .result)) (c .before .method-single .ensures)
 
 pub trim-single-spec : {M : Type 1} → statement M
 trim-single-spec =

@@ -1,3 +1,0 @@
-pub mod Few
-pub mod Tails
-pub mod Methods

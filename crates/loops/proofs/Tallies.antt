@@ -1,0 +1,56 @@
+-- What one reading counts for is 0 or 1 in each of the four; and the sums over an array, whatever counts they hold.
+use mathlib.Core.Path.{_≡_}
+use mathlib.Core.Bool.{Bool, true, false, cond}
+use Prim.Native.Nat.{ℕ, _+_, _≤_, zero-le}
+use native.Mathlib.Nat.{le-refl, add-zero, zero-add, add-assoc}
+use native.Mathlib.Omega.{arith}
+use lib.Dec.{eqb}
+use Rattle.meaning.specs.Readings.{magnitude}
+use Rattle.meaning.specs.Methods.{Method, clips}
+use Rattle.reading.specs.Left.{Tally, unlessMissing, leftFrom, settledFrom, wantedBy, over, settledBy, settledTail}
+use Rattle.loops.specs.Tallies.{none, plus, Few}
+
+bit-of : (b : Bool) (m n : ℕ) → m ≤ 1 → n ≤ 1 → cond b m n ≤ 1
+bit-of true m n h k = h
+bit-of false m n h k = k
+
+pub one-from : (mark x z over : ℕ) → over ≤ 1 → Few (settledFrom mark x z over .tally) 1
+unfolding settledFrom
+one-from mark x z over h =
+    record {
+      changed-few = bit-of (eqb (leftFrom mark x z) x) 0 1 zero-le (le-refl 1);
+      marked-few = bit-of (eqb (unlessMissing mark x z) mark) 1 0 (le-refl 1) zero-le;
+      clipped-few = bit-of (eqb (leftFrom mark x z) x) 0 over zero-le h;
+      missing-few = bit-of (eqb x mark) 1 0 (le-refl 1) zero-le;
+    }
+
+module _ (F X : ℕ) where
+  pub one-by : (x : Method) (mark place w : ℕ) → Few (settledBy F X x mark place w .tally) 1
+  unfolding settledBy over
+  one-by x mark place w = one-from mark w (wantedBy F X x place w) (over F X x w) (bit-of (clips F X x (magnitude F X w)) 1 0 (le-refl 1) zero-le)
+
+  pub one-tail : (t add mark w : ℕ) → Few (settledTail F X t add mark w .tally) 1
+  unfolding settledTail
+  one-tail t add mark w = one-from mark w _ 0 zero-le
+
+pub few-none : Few none 0
+few-none = record { changed-few = zero-le; marked-few = zero-le; clipped-few = zero-le; missing-few = zero-le }
+
+pub few-wider : (t : Tally) (m n : ℕ) → m ≤ n → Few t m → Few t n
+few-wider t m n l h = record { changed-few = omega arith; marked-few = omega arith; clipped-few = omega arith; missing-few = omega arith }
+
+pub few-plus : (s t : Tally) (m n : ℕ) → Few s m → Few t n → Few (plus s t) (m + n)
+unfolding plus
+few-plus s t m n h k = record { changed-few = omega arith; marked-few = omega arith; clipped-few = omega arith; missing-few = omega arith }
+
+pub plus-none : (t : Tally) → plus t none ≡ t
+unfolding plus
+plus-none t = simp add-zero
+
+pub none-plus : (t : Tally) → plus none t ≡ t
+unfolding plus
+none-plus t = simp zero-add
+
+pub plus-assoc : (r s t : Tally) → plus (plus r s) t ≡ plus r (plus s t)
+unfolding plus
+plus-assoc r s t = simp add-assoc
