@@ -1,4 +1,4 @@
-/* What both benchmarks measure with: a clock in ns, and numbers that are the same in every run. */
+/* What the benchmarks measure with: a clock in ns, and numbers that are the same in every run. */
 #include <stdint.h>
 #include <time.h>
 

@@ -2,11 +2,12 @@
  * The C is this file's own, plain and fast, and is checked against the library's counts and patterns before anything is timed. */
 #include "../include/megharutti.h"
 #include "clock.h"
+#include "trims.h"
 #include <stdio.h>
 #include <stdlib.h>
 #include <string.h>
 
-enum { KEEP = 7, TURNS = 25, WORKS = 9 };
+enum { TURNS = 25, WORKS = 9 };
 
 /* Round with a mark and four counts, written so that gcc can work on several readings at once: every outcome is computed and chosen last. */
 static void round_singles(uint32_t *w, size_t n, int k, uint32_t mark, uint64_t counts[4]) {
@@ -52,11 +53,6 @@ static void round_doubles(uint64_t *w, size_t n, int k, uint64_t mark, uint64_t 
     counts[0] = a, counts[1] = b, counts[2] = c, counts[3] = d;
 }
 
-static const char *name[] = {"shave", "set", "groom", "halfshave", "round", "absolute", "digits"};
-static const int setting[] = {KEEP, KEEP, KEEP, KEEP, KEEP, -5, 3};
-static const uint32_t mark32 = 0x7CF00000;
-static const uint64_t mark64 = 0x479E000000000000;
-
 /* 0 is memcpy, 1 the C above, 2 + method the library. */
 static int wide;
 static void work(int which, void *to, const void *from, size_t n, uint64_t counts[4]) {
@@ -97,12 +93,7 @@ int main(void) {
                 return puts("bench: no memory"), 1;
             for (size_t i = 0; i < n; i++) { /* air and rain: 0 to 100, 5 % missing */
                 double v = (draw() >> 11) * 0x1p-53 * 100;
-                float f = (float)v;
-                int gone = draw() % 20 == 0;
-                if (wide)
-                    memcpy((uint64_t *)from + i, gone ? (const void *)&mark64 : &v, 8);
-                else
-                    memcpy((uint32_t *)from + i, gone ? (const void *)&mark32 : &f, 4);
+                put(from, i, wide, v, draw() % 20 == 0);
             }
             uint64_t ours[4], theirs[4];
             memcpy(to, from, bytes), memcpy(other, from, bytes);

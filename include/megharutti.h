@@ -47,7 +47,7 @@
 #include <stdint.h>
 
 /* The version of this header, of the library and of the program trimlist. */
-#define MEGHARUTTI_VERSION "1.1.0"
+#define MEGHARUTTI_VERSION "1.2.0"
 
 #ifdef __cplusplus
 extern "C" {

@@ -8,10 +8,10 @@ ghost use Rattle.meaning.specs.Readings.{infinity};
 ghost use Rattle.meaning.specs.Methods.{halfshaved, round, absolute, digits};
 ghost use Rattle.powers.specs.Table.{powers};
 ghost use Rattle.reading.specs.Left.{settledFrom, settledBy, settledTail};
-ghost use Rattle.reading.specs.Tails.{constants, TailOf};
+ghost use Rattle.reading.specs.Tails.{constants, TailOf, tailWord, roundWord, roundOver};
 ghost use Rattle.double.specs.Left.{settledOf, constantsOf};
 
-// What is left of a double, and four numbers of 0 or 1: whether it is changed, whether it or its result is the mark, whether it is clipped, whether it is missing.
+// What is left of a double, and numbers of 0 or 1: whether it is changed, whether it or its result is the mark, whether it is clipped, whether it is missing.
 pub struct Double {
     pub pattern: u64,
     pub changed: u64,
@@ -47,7 +47,7 @@ pub fn settle_double(x: u64, z: u64, over: u64, mark: u64) -> Double
 }
 
 // 2^t.
-pub fn power_double(t: u32) -> u64
+fn power_double(t: u32) -> u64
     requires { ⌜ t ≤ 52 ⌝ }
     ensures { λ r. ⌜ r ≡ 2 ^ t ⌝ }
 {
@@ -102,7 +102,8 @@ fn unless_zero(m: u64, add: u64) -> u64
 // Methods 0 to 3: the tail becomes `add`, and zero stays. The sign stands above every tail, so the whole pattern is cut.
 pub fn tail_double(x: u64, tail: Tail, add: u64, mark: u64) -> Double
     requires { ⌜ (TailOf 52 (constantsOf tail)) × (add ≤ tail .ones) ⌝ }
-    ensures { λ r. ⌜ settledOf r ≡ settledTail 52 11 (tail .bits) add mark x ⌝ }
+    ensures result { λ r. ⌜ settledOf r ≡ settledTail 52 11 (tail .bits) add mark x ⌝ }
+    ensures words { λ r. ⌜ settledOf r ≡ settledFrom mark x (tailWord 52 11 (constantsOf tail) add x) 0 ⌝ }
 {
     let m = x % 0x8000_0000_0000_0000;
     let s = x - (x & tail.ones);
@@ -115,7 +116,8 @@ pub fn tail_double(x: u64, tail: Tail, add: u64, mark: u64) -> Double
 // a unit taken back where that isn't finite.
 pub fn round_double(x: u64, tail: Tail, mark: u64) -> Double
     requires { ⌜ (TailOf 52 (constantsOf tail)) × (1 ≤ tail .bits) ⌝ }
-    ensures { λ r. ⌜ settledOf r ≡ settledBy 52 11 (round (52 - tail .bits)) mark 0 x ⌝ }
+    ensures result { λ r. ⌜ settledOf r ≡ settledBy 52 11 (round (52 - tail .bits)) mark 0 x ⌝ }
+    ensures words { λ r. ⌜ settledOf r ≡ settledFrom mark x (roundWord 52 11 (constantsOf tail) x) (roundOver 52 11 (constantsOf tail) x) ⌝ }
 {
     let m = x % 0x8000_0000_0000_0000;
     let odd = (m >> tail.bits) % 2;

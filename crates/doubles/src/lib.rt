@@ -12,7 +12,7 @@ ghost use Rattle.loops.specs.Tallies.{totalsOf};
 ghost use Rattle.loops.specs.Walk.{stateAt, walkedBy, talliedBy, walked, tallied};
 ghost use Rattle.loops.specs.Methods.{Fitting, addBy, Suits, settledWith, nextWith};
 
-// ---- each method over doubles
+// ---- each method over a part of an array, or all of it
 
 // Methods 0, 1 and 3: every tail becomes `add`.
 fn tail_doubles(readings: &mut [u64], tail: double::Tail, add: u64, mark: u64) -> loops::Totals
@@ -160,7 +160,7 @@ pub struct Job {
 }
 
 // The trim by a method's number and its natural setting. Methods 5 and 6 have no tail.
-pub fn job_double(method: u32, n: u32) -> Job
+fn job_double(method: u32, n: u32) -> Job
     requires { ⌜ Fitting method n 52 15 ⌝ }
     ensures method { λ r. ⌜ r .method ≡ method ⌝ }
     ensures setting { λ r. ⌜ r .n ≡ n ⌝ }
@@ -187,7 +187,7 @@ fn add_double(method: u32, tail: double::Tail) -> u64
     0
 }
 
-// An array by any method but grooming.
+// A part by any method but grooming.
 fn plain_doubles(readings: &mut [u64], job: Job, mark: u64) -> loops::Totals
     requires { ⌜ (Suits 52 15 (job .method) (job .n) (constantsOf (job .tail))) × (job .method ≢ 2) ⌝ }
     ensures sums { λ r. ⌜ totalsOf r ≡ tallied (settledBy 52 11 (methodBy (job .method) (job .n)) mark 0) (now (readings .entry)) ⌝ }
@@ -208,7 +208,7 @@ fn plain_doubles(readings: &mut [u64], job: Job, mark: u64) -> loops::Totals
 }
 
 // A part of an array, where grooming puts `add` into the first tail.
-pub fn part_doubles(readings: &mut [u64], job: Job, add: u64, mark: u64) -> Part
+fn part_doubles(readings: &mut [u64], job: Job, add: u64, mark: u64) -> Part
     requires { ⌜ (Suits 52 15 (job .method) (job .n) (constantsOf (job .tail))) × (add ≤ job .tail .ones) ⌝ }
     ensures sums { λ r. ⌜ totalsOf (r .sums) ≡ talliedBy (nextWith 52 (job .method) (job .n)) (settledWith 52 11 (job .method) (job .n) mark) add (now (readings .entry)) ⌝ }
     ensures add { λ r. ⌜ r .add ≡ stateAt (nextWith 52 (job .method) (job .n)) add (now (readings .entry)) (length (now (readings .entry))) ⌝ }

@@ -3,8 +3,8 @@ use mathlib.Core.Path.{_≡_, refl, sym, ap, ap₂, _∙_, fun-ext}
 use mathlib.Core.Logic.{_≢_}
 use mathlib.Core.Bool.{Bool, true, false, cond}
 use mathlib.Core.List.{List, [], _∷_}
-use Prim.Native.Nat.{ℕ, zero, suc, _+_, _-_, _%_, _^_, _≤_, _<_}
-use native.Mathlib.Nat.{add-zero, sub-self}
+use Prim.Native.Nat.{ℕ, zero, suc, _+_, _-_, _%_, _^_, _≤_, _<_, zero-le}
+use native.Mathlib.Nat.{le-refl, add-zero, sub-self}
 use native.Mathlib.Numerals.{add-one}
 use native.Mathlib.Decide.{ℕ-discrete}
 use native.Mathlib.Omega.{arith}
@@ -19,7 +19,7 @@ use Rattle.asking.specs.Asked.{methodBy}
 use Rattle.reading.specs.Left.{Tally, Settled, wanted, wantedBy, over, tailAdded, settledBy, settledTail}
 use Rattle.reading.specs.Tails.{halfUnit, Constants, constants, TailOf}
 use Rattle.reading.proofs.Counted.{on-grid}
-use Rattle.reading.proofs.Words.{wanted-sum}
+use Rattle.reading.proofs.Words.{cond-le, wanted-sum}
 use Rattle.reading.proofs.Settled.{settled-by}
 use Rattle.reading.proofs.Tails.{made, zero-cut}
 use Rattle.loops.specs.Tallies.{plus, Few}
@@ -71,12 +71,9 @@ half-fits (suc t) = omega (arith, pow-lt {i = t} {j = suc t} (omega arith))
 -- what they put there is no longer than the tail
 pub add-fits : {F : ℕ} {c : Constants} (method : ℕ) → TailOf F c → addBy method c ≤ c .ones
 unfolding addBy
-add-fits {F} {c} method h = go (eqb method 1) (eqb method 3)
-  where
-    go : (a b : Bool) → cond a (c .ones) (cond b (c .half) 0) ≤ c .ones
-    go true b = omega arith
-    go false true = omega (arith, h .is-ones, h .is-half, half-fits (c .bits))
-    go false false = omega arith
+add-fits {F} {c} method h =
+    let half : c .half ≤ c .ones = omega (arith, h .is-ones, h .is-half, half-fits (c .bits)) in
+    cond-le (eqb method 1) (c .ones) (cond (eqb method 3) (c .half) 0) (c .ones) (le-refl (c .ones)) (cond-le (eqb method 3) (c .half) 0 (c .ones) half zero-le)
 
 module _ (F X : ℕ) where
   module _ (n mark w : ℕ) where
@@ -150,11 +147,7 @@ over-all ws g h e r = let f = fun-ext e in (r .0 ∙ ap (λ (k : ℕ → Settled
 
 pub add-below : (even odd i n : ℕ) → even ≤ n → odd ≤ n → addAt even odd i ≤ n
 unfolding addAt
-add-below even odd i n h k = go (eqb (i % 2) 0)
-  where
-    go : (b : Bool) → cond b even odd ≤ n
-    go true = h
-    go false = k
+add-below even odd i n h k = cond-le (eqb (i % 2) 0) even odd n h k
 
 pub add-next : (ones even odd i : ℕ) → odd + even ≡ ones → addAt even odd (i + 1) ≡ ones - addAt even odd i
 unfolding addAt

@@ -1,6 +1,5 @@
--- What one reading counts for is 0 or 1 in each of the four; and the sums over an array, whatever counts they hold.
+-- What one reading counts for is 0 or 1 in each count; and the sums over an array, whatever counts they hold.
 use mathlib.Core.Path.{_≡_}
-use mathlib.Core.Bool.{Bool, true, false, cond}
 use Prim.Native.Nat.{ℕ, _+_, _≤_, zero-le}
 use native.Mathlib.Nat.{le-refl, add-zero, zero-add, add-assoc}
 use native.Mathlib.Omega.{arith}
@@ -8,26 +7,23 @@ use lib.Dec.{eqb}
 use Rattle.meaning.specs.Readings.{magnitude}
 use Rattle.meaning.specs.Methods.{Method, clips}
 use Rattle.reading.specs.Left.{Tally, unlessMissing, leftFrom, settledFrom, wantedBy, over, settledBy, settledTail}
+use Rattle.reading.proofs.Words.{cond-le}
 use Rattle.loops.specs.Tallies.{none, plus, Few}
-
-bit-of : (b : Bool) (m n : ℕ) → m ≤ 1 → n ≤ 1 → cond b m n ≤ 1
-bit-of true m n h k = h
-bit-of false m n h k = k
 
 pub one-from : (mark x z over : ℕ) → over ≤ 1 → Few (settledFrom mark x z over .tally) 1
 unfolding settledFrom
 one-from mark x z over h =
     record {
-      changed-few = bit-of (eqb (leftFrom mark x z) x) 0 1 zero-le (le-refl 1);
-      marked-few = bit-of (eqb (unlessMissing mark x z) mark) 1 0 (le-refl 1) zero-le;
-      clipped-few = bit-of (eqb (leftFrom mark x z) x) 0 over zero-le h;
-      missing-few = bit-of (eqb x mark) 1 0 (le-refl 1) zero-le;
+      changed-few = cond-le (eqb (leftFrom mark x z) x) 0 1 1 zero-le (le-refl 1);
+      marked-few = cond-le (eqb (unlessMissing mark x z) mark) 1 0 1 (le-refl 1) zero-le;
+      clipped-few = cond-le (eqb (leftFrom mark x z) x) 0 over 1 zero-le h;
+      missing-few = cond-le (eqb x mark) 1 0 1 (le-refl 1) zero-le;
     }
 
 module _ (F X : ℕ) where
   pub one-by : (x : Method) (mark place w : ℕ) → Few (settledBy F X x mark place w .tally) 1
   unfolding settledBy over
-  one-by x mark place w = one-from mark w (wantedBy F X x place w) (over F X x w) (bit-of (clips F X x (magnitude F X w)) 1 0 (le-refl 1) zero-le)
+  one-by x mark place w = one-from mark w (wantedBy F X x place w) (over F X x w) (cond-le (clips F X x (magnitude F X w)) 1 0 1 (le-refl 1) zero-le)
 
   pub one-tail : (t add mark w : ℕ) → Few (settledTail F X t add mark w .tally) 1
   unfolding settledTail

@@ -1,4 +1,4 @@
--- The sums over an array, as what one reading counts for: of none, with more, and none of the four above a number.
+-- The sums over an array, as what one reading counts for: of none, with more, and none of them above a number.
 use Prim.Native.Nat.{ℕ, _+_, _≤_}
 use Rattle.reading.specs.Left.{Tally}
 use Rattle.loops.specs.declared.Sums.{Sums}

@@ -73,16 +73,16 @@ impl Totals {
         }
     }
 
-    // With those of a block of singles.
-    pub fn join(self, block: Sums) -> Self
-        requires { ⌜ Few (plus (totalsOf self) (sumsOf block)) 0xffff_ffff_ffff_ffff ⌝ }
-        ensures { λ r. ⌜ totalsOf r ≡ plus (totalsOf self) (sumsOf block) ⌝ }
+    // With those of a part of singles.
+    pub fn join(self, part: Sums) -> Self
+        requires { ⌜ Few (plus (totalsOf self) (sumsOf part)) 0xffff_ffff_ffff_ffff ⌝ }
+        ensures { λ r. ⌜ totalsOf r ≡ plus (totalsOf self) (sumsOf part) ⌝ }
     {
         Self {
-            changed: self.changed + wide(block.changed),
-            marked: self.marked + wide(block.marked),
-            clipped: self.clipped + wide(block.clipped),
-            missing: self.missing + wide(block.missing),
+            changed: self.changed + wide(part.changed),
+            marked: self.marked + wide(part.marked),
+            clipped: self.clipped + wide(part.clipped),
+            missing: self.missing + wide(part.missing),
         }
     }
 }

@@ -18,7 +18,7 @@ use Rattle.meaning.proofs.Rounding.{cap, round-clipped, absolute-clipped}
 use Rattle.meaning.proofs.Absolute.{absolute-exact}
 use Rattle.meaning.proofs.Accepted.{Ready}
 use Rattle.meaning.proofs.OneReading.{trimmed-other, trimmed-spared, trimmed-result, new-below}
-use Rattle.reading.specs.Left.{unlessMissing, leftFrom, wanted, wantedBy, over}
+use Rattle.reading.specs.Left.{unlessMissing, leftFrom, settledFrom, wanted, wantedBy, over, settledBy, inForce}
 
 pub on-grid : (t m : ℕ) → shaved t m ≡ m → rounded t m ≡ m
 unfolding shaved rounded
@@ -149,3 +149,8 @@ module _ (F X : ℕ) where
             by true c =
                 simp (trimmed-result F X x mark place w p f e, ne-eqb (result F X x place w) w (clip-changes c f), ne-eqb w mark p, lt-ltb (magnitude F X w) (infinity F X) f, ne-eqb (result F X x place w) mark e, c)
             by false c = simp (c, ne-eqb w mark p, lt-ltb (magnitude F X w) (infinity F X) f, ne-eqb (result F X x place w) mark e) (either (eqb (trimmed F X x mark place w) w))
+
+    -- all of it
+    pub settled-is : settledBy F X x mark place w ≡ inForce F X x mark place w
+    unfolding settledBy settledFrom inForce missing
+    settled-is = rw (changed-is, clipped-is, marked-is, left-is) refl

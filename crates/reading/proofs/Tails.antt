@@ -1,8 +1,8 @@
 -- Document 02 (d): the constants of a tail follow from the keep bits alone, and each reading trimmed with them gets the result in force; for every width.
 use mathlib.Core.Path.{_≡_, refl, sym, ap, _∙_, subst}
 use mathlib.Core.Bool.{cond}
-use Prim.Native.Nat.{ℕ, zero, suc, _+_, _-_, _*_, _/_, _%_, _^_, _≤_, _<_}
-use native.Mathlib.Nat.{mod-add-mod, mod-eq-of-lt, mul-add-mod-self-right, add-mod-right, div-add-mod', div-mul-le-self, div-lt-iff-lt-mul, mul-le-mul-right, add-mul, mul-comm, pow-suc}
+use Prim.Native.Nat.{ℕ, zero, suc, _+_, _-_, _*_, _/_, _%_, _^_, _≤_, _<_, zero-le}
+use native.Mathlib.Nat.{mod-add-mod, mod-eq-of-lt, mod-lt, mul-add-mod-self-right, add-mod-right, div-add-mod', div-mul-le-self, div-lt-iff-lt-mul, mul-le-mul-right, add-mul, mul-comm, pow-suc}
 use native.Mathlib.Numerals.{add-one}
 use native.Mathlib.Decide.{decLt, ℕ-discrete}
 use native.Mathlib.Omega.{arith}
@@ -10,14 +10,15 @@ use borrow.Author.Tests.{eq-eqb, ne-eqb, lt-ltb, le-ltb}
 use lib.Bits.{bitAnd, and-mask}
 use lib.Dec.{eqb, ltb}
 use lib.Pow.{pow-pos, pow-mono, pow-add}
-use Rattle.meaning.specs.Readings.{magnitude, infinity}
+use Rattle.meaning.specs.Readings.{magnitude, infinity, finite}
 use Rattle.meaning.specs.Methods.{nearest, round, shaved, rounded, newMagnitude}
 use Rattle.meaning.proofs.Nearest.{nearest-floor}
-use Rattle.reading.specs.Left.{wanted, over, tailAdded}
-use Rattle.reading.specs.Tails.{halfUnit, Constants, constants, TailOf}
-use Rattle.reading.proofs.Words.{floor-sign, rounded-sum, wanted-sum, round-new, round-over}
+use Rattle.reading.specs.Left.{settledFrom, wanted, over, tailAdded, settledBy, settledTail}
+use Rattle.reading.specs.Tails.{halfUnit, Constants, constants, TailOf, tailWord, nearWord, roundWord, roundOver}
+use Rattle.reading.proofs.Settled.{settled-by}
+use Rattle.reading.proofs.Words.{cond-le, floor-sign, rounded-sum, wanted-sum, round-new, round-over}
 
-half-of : (t U : ℕ) → U ≡ 2 ^ t → U / 2 ≡ halfUnit t
+pub half-of : (t U : ℕ) → U ≡ 2 ^ t → U / 2 ≡ halfUnit t
 half-of zero U e = rw e refl
 half-of (suc t) U e = let d : U ≡ 2 ^ t * 2 = e ∙ pow-suc 2 t in omega arith
 
@@ -36,14 +37,20 @@ unfolding constants
 made F k c e = subst (TailOf F) (sym e) (record { short = omega arith; is-ones = refl; is-half = refl })
 
 -- and a tail's follow from the keep bits alone
-pub alone : (F : ℕ) (c : Constants) → TailOf F c → c ≡ constants F (F - c .bits)
+pub alone : (F k : ℕ) (c : Constants) → TailOf F c → c .bits ≡ F - k → c ≡ constants F k
 unfolding constants
-alone F c h = let e : F - (F - c .bits) ≡ c .bits = omega (arith, h .short) in rw (e, ← h .is-ones, ← h .is-half) refl
+alone F k c h e = rw (← e, ← h .is-ones, ← h .is-half) refl
 
-wrapped : (W d p x : ℕ) → d < W → p < W → (d + p) % W ≡ x → d ≡ (x + (W - p)) % W
+-- a difference that wraps around
+pub wrapped : (W d p x : ℕ) → d < W → p < W → (d + p) % W ≡ x → d ≡ (x + (W - p)) % W
 wrapped W d p x hd hp e =
     let f : d + p + (W - p) ≡ d + W = omega arith in
     sym (ap (λ (y : ℕ). (y + (W - p)) % W) (sym e) ∙ mod-add-mod (d + p) W (W - p) ∙ ap (λ (y : ℕ). y % W) f ∙ add-mod-right d W ∙ mod-eq-of-lt hd)
+
+taken-back : (W up back : ℕ) → up < W → back ≤ W → ((up + (W - back)) % W + back) % W ≡ up
+taken-back W up back h k =
+    let f : up + (W - back) + back ≡ up + W = omega arith in
+    mod-add-mod (up + (W - back)) W back ∙ ap (λ (y : ℕ). y % W) f ∙ add-mod-right up W ∙ mod-eq-of-lt h
 
 -- a cut by the tail's bits
 pub mask-cut : (t x ones : ℕ) → ones ≡ 2 ^ t - 1 → x - bitAnd x ones ≡ x / 2 ^ t * 2 ^ t
@@ -183,3 +190,31 @@ module _ (F X : ℕ) where
             let z : up + (2 ^ (F + X + 1) - back) ≡ q + shaved t m + 2 ^ (F + X + 1) = omega (arith, b, r, up-is, unit, top, two) in
             let e : y ≡ q + shaved t m = wrapped (2 ^ (F + X + 1)) y back up small (omega (arith, b, unit, top, two, fin)) yy ∙ ap (λ (x : ℕ). x % 2 ^ (F + X + 1)) z ∙ add-mod-right (q + shaved t m) (2 ^ (F + X + 1)) ∙ mod-eq-of-lt (omega (arith, cut-le, signs, fin, top, two, pow-pos F)) in
             omega (arith, n, e, parts)
+
+  -- ---- and so each reading trimmed with a tail's constants gets the method's result
+
+  module _ (c : Constants) (h : TailOf F c) (mark w : ℕ) where
+    pub settled-tail : (add : ℕ) → settledFrom mark w (tailWord F X c add w) 0 ≡ settledTail F X (c .bits) add mark w
+    unfolding settledTail tailWord finite
+    settled-tail add = ap (λ (z : ℕ). settledFrom mark w z 0) (tail-cut w (c .bits) add (c .ones) _ (tailWord F X c add w) (h .short) (h .is-ones) refl refl)
+
+    pub settled-round : 1 ≤ c .bits → w < 2 ^ (F + X + 1) → settledFrom mark w (roundWord F X c w) (roundOver F X c w) ≡ settledBy F X (round (F - c .bits)) mark 0 w
+    unfolding roundWord roundOver nearWord finite magnitude
+    settled-round some short =
+        let W = 2 ^ (F + X + 1) in
+        let t = c .bits in
+        let m = magnitude F X w in
+        let sum = w + (c .half - 1 + m / 2 ^ t % 2) in
+        let near = sum % W in
+        let up = near - bitAnd near (c .ones) in
+        let u = up % 2 ^ (F + X) in
+        let over : ℕ = cond (ltb u (infinity F X)) 0 1 in
+        let back = cond (ltb u (infinity F X)) 0 (c .ones + 1) in
+        let y = (up + (W - back)) % W in
+        let half = h .is-half ∙ half-positive t some in
+        let room : c .ones + 1 ≤ W = omega (arith, h .is-ones, pow-pos t, pow-mono {i = t} {j = F + X + 1} (omega (arith, h .short))) in
+        let again = taken-back W up back (omega (arith, mod-lt sum (pow-pos (F + X + 1)))) (cond-le (ltb u (infinity F X)) 0 (c .ones + 1) W zero-le room) in
+        let small = mod-lt (up + (W - back)) (pow-pos (F + X + 1)) in
+        settled-by F X (round (F - t)) mark w (newMagnitude F X (round (F - t)) 0 m) over (cond (ltb m (infinity F X)) y w) (λ f. refl)
+        (λ f. over-cut w t (c .half) (c .ones) near up u back y some (h .short) half (h .is-ones) short small refl refl refl refl again f over refl)
+        (only-finite m (infinity F X) y _ w (λ f. round-cut w t (c .half) (c .ones) near up u back y some (h .short) half (h .is-ones) short small refl refl refl refl again f))

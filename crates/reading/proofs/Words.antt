@@ -37,6 +37,10 @@ pub cond-lt : (b : Bool) (x y n : ℕ) → x < n → y < n → cond b x y < n
 cond-lt true x y n h k = h
 cond-lt false x y n h k = k
 
+pub cond-le : (b : Bool) (x y n : ℕ) → x ≤ n → y ≤ n → cond b x y ≤ n
+cond-le true x y n h k = h
+cond-le false x y n h k = k
+
 -- u where it is below i, and s elsewhere
 pub chosen-lt : (u s i b : ℕ) → i ≤ b → s < b → cond (ltb u i) u s < b
 chosen-lt u s i b h k = go (decLt u i)

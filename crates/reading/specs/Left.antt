@@ -2,8 +2,8 @@
 use mathlib.Core.Bool.{cond}
 use Prim.Native.Nat.{ℕ, _+_}
 use lib.Dec.{eqb}
-use Rattle.meaning.specs.Readings.{sign, magnitude, pattern, finite}
-use Rattle.meaning.specs.Methods.{Method, shaved, newMagnitude, clips}
+use Rattle.meaning.specs.Readings.{sign, magnitude, pattern, finite, missing}
+use Rattle.meaning.specs.Methods.{Method, shaved, newMagnitude, clips, trimmed, changed, spared, clipped}
 
 -- what one reading, or a whole array, counts for: places changed, places where the reading or its result is the mark, places clipped, places missing
 pub record Tally : Type 0 where
@@ -61,3 +61,16 @@ module _ (F X : ℕ) where
   -- a reading whose tail of t bits becomes `add`
   unfoldable pub settledTail : ℕ → ℕ → ℕ → ℕ → Settled
   settledTail t add mark w = settledFrom mark w (wanted w (tailAdded t add (magnitude F X w))) 0
+
+  -- what document 01's definitions say of a reading: the pattern that is left, and what it counts for
+  unfoldable pub inForce : Method → ℕ → ℕ → ℕ → Settled
+  inForce x mark place w =
+      record {
+        pattern = trimmed F X x mark place w;
+        tally = record {
+          changed = cond (changed F X x mark place w) 1 0;
+          marked = cond (spared F X x mark place w) 1 0 + cond (missing mark w) 1 0;
+          clipped = cond (clipped F X x mark place w) 1 0;
+          missing = cond (missing mark w) 1 0;
+        };
+      }

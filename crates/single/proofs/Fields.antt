@@ -4,8 +4,8 @@ use mathlib.Core.Path.{_≡_, refl, sym, ap, _∙_, subst}
 use mathlib.Core.Logic.{_≢_}
 use mathlib.Core.Bool.{cond}
 use mathlib.Core.List.{List}
-use Prim.Native.Nat.{ℕ, zero, suc, _+_, _-_, _*_, _/_, _%_, _^_, _≤_, _<_}
-use native.Mathlib.Nat.{pow-suc, mod-lt, div-add-mod'}
+use Prim.Native.Nat.{ℕ, zero, _+_, _-_, _*_, _/_, _%_, _^_, _≤_, _<_}
+use native.Mathlib.Nat.{mod-lt, div-add-mod'}
 use native.Mathlib.Decide.{decLt, ℕ-discrete}
 use native.Mathlib.Omega.{arith}
 use borrow.Author.Tests.{ne-eqb, lt-ltb, le-ltb}
@@ -17,13 +17,13 @@ use Rattle.meaning.specs.Readings.{magnitude, infinity}
 use Rattle.meaning.specs.Methods.{digits, halfshaved, newMagnitude}
 use Rattle.digit_tables.specs.Fields.{fieldLimit, fieldTail, Limits, Masks}
 use Rattle.digit_tables.proofs.Fields.{tail-zero, tail-last, tail-short, field-tail}
+use Rattle.reading.proofs.Tails.{half-of, half-positive}
 use Rattle.reading.proofs.Words.{cond-lt, floor-room, halfshaved-none, halfshaved-word, digits-zero}
 use Rattle.single.specs.Left.{subnormal}
 
 -- half a tail's unit
 half-unit : (t : ℕ) → t ≢ 0 → 2 ^ t / 2 ≡ 2 ^ (t - 1)
-half-unit zero h = absurd (h refl)
-half-unit (suc t) h = let e : suc t - 1 ≡ t = omega arith in rw (e, pow-suc 2 t) (omega arith)
+half-unit t h = half-of t (2 ^ t) refl ∙ half-positive t (omega arith)
 
 half-less : (t : ℕ) → 2 ^ t / 2 < 2 ^ t
 half-less t = omega (arith, pow-pos t)

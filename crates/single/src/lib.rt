@@ -9,10 +9,10 @@ ghost use Rattle.meaning.specs.Methods.{halfshaved, round, absolute, digits};
 ghost use Rattle.powers.specs.Table.{powers};
 ghost use Rattle.digit_tables.specs.Fields.{Limits, Masks};
 ghost use Rattle.reading.specs.Left.{settledFrom, settledBy, settledTail};
-ghost use Rattle.reading.specs.Tails.{constants, TailOf};
+ghost use Rattle.reading.specs.Tails.{constants, TailOf, tailWord, roundWord, roundOver};
 ghost use Rattle.single.specs.Left.{settledOf, constantsOf, subnormal};
 
-// What is left of a single, and four numbers of 0 or 1: whether it is changed, whether it or its result is the mark, whether it is clipped, whether it is missing.
+// What is left of a single, and numbers of 0 or 1: whether it is changed, whether it or its result is the mark, whether it is clipped, whether it is missing.
 pub struct Single {
     pub pattern: u32,
     pub changed: u32,
@@ -48,7 +48,7 @@ pub fn settle_single(x: u32, z: u32, over: u32, mark: u32) -> Single
 }
 
 // 2^t.
-pub fn power_single(t: u32) -> u32
+fn power_single(t: u32) -> u32
     requires { ⌜ t ≤ 23 ⌝ }
     ensures { λ r. ⌜ r ≡ 2 ^ t ⌝ }
 {
@@ -103,7 +103,8 @@ fn unless_zero(m: u32, add: u32) -> u32
 // Methods 0 to 3: the tail becomes `add`, and zero stays. The sign stands above every tail, so the whole pattern is cut.
 pub fn tail_single(x: u32, tail: Tail, add: u32, mark: u32) -> Single
     requires { ⌜ (TailOf 23 (constantsOf tail)) × (add ≤ tail .ones) ⌝ }
-    ensures { λ r. ⌜ settledOf r ≡ settledTail 23 8 (tail .bits) add mark x ⌝ }
+    ensures result { λ r. ⌜ settledOf r ≡ settledTail 23 8 (tail .bits) add mark x ⌝ }
+    ensures words { λ r. ⌜ settledOf r ≡ settledFrom mark x (tailWord 23 8 (constantsOf tail) add x) 0 ⌝ }
 {
     let m = x % 0x8000_0000;
     let s = x - (x & tail.ones);
@@ -116,7 +117,8 @@ pub fn tail_single(x: u32, tail: Tail, add: u32, mark: u32) -> Single
 // a unit taken back where that isn't finite.
 pub fn round_single(x: u32, tail: Tail, mark: u32) -> Single
     requires { ⌜ (TailOf 23 (constantsOf tail)) × (1 ≤ tail .bits) ⌝ }
-    ensures { λ r. ⌜ settledOf r ≡ settledBy 23 8 (round (23 - tail .bits)) mark 0 x ⌝ }
+    ensures result { λ r. ⌜ settledOf r ≡ settledBy 23 8 (round (23 - tail .bits)) mark 0 x ⌝ }
+    ensures words { λ r. ⌜ settledOf r ≡ settledFrom mark x (roundWord 23 8 (constantsOf tail) x) (roundOver 23 8 (constantsOf tail) x) ⌝ }
 {
     let m = x % 0x8000_0000;
     let odd = (m >> tail.bits) % 2;

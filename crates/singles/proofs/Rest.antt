@@ -1,4 +1,4 @@
--- The readings of a block from a place on are not subnormal: kept by a store before that place, and found out by a count.
+-- The readings of a part from a place on are not subnormal: kept by a store before that place, and found out by a count.
 use mathlib.Core.Path.{_≡_, ap, _∙_}
 use mathlib.Core.Bool.{cond}
 use mathlib.Core.List.{List}

@@ -1,5 +1,5 @@
-// Trimming an array of singles in place: each method's loop, and the loader's one reading. The loops run in blocks, so that 32-bit counters serve and LLVM can work
-// on four readings at once. Internal: the calls open to users are those of `trim`.
+// Trimming an array of singles in place: each method's loop, and the loader's one reading. The loops run over parts of an array, so that 32-bit counters serve and LLVM
+// can work on four readings at once. Internal: the calls open to users are those of `trim`.
 ghost use mathlib.Core.Path.{_≡_};
 ghost use mathlib.Core.Logic.{_≢_};
 ghost use mathlib.Core.Bool.{true};
@@ -17,7 +17,7 @@ ghost use Rattle.loops.specs.Walk.{stateAt, walkedBy, talliedBy, walked, tallie
 ghost use Rattle.loops.specs.Methods.{Fitting, addBy, Suits, settledWith, nextWith};
 ghost use Rattle.singles.specs.Subnormal.{NoSubnormal};
 
-// ---- each method over a block of singles
+// ---- each method over a part of an array, up to 65,536 singles
 
 // Methods 0, 1 and 3: every tail becomes `add`.
 fn tail_singles(readings: &mut [u32], tail: single::Tail, add: u32, mark: u32) -> loops::Sums
@@ -157,7 +157,7 @@ fn field_singles(
     sums
 }
 
-// How many singles of a block are subnormal and not zero.
+// How many singles of a part are subnormal and not zero.
 fn subnormal_singles(readings: &[u32]) -> u32
     requires { ⌜ length (now readings) ≤ 65536 ⌝ }
     ensures { λ r. ⌜ (r ≡ 0 → NoSubnormal (now (readings .entry))) ⌝ }
@@ -171,7 +171,7 @@ fn subnormal_singles(readings: &[u32]) -> u32
     found
 }
 
-// Whether the tables of the exponent fields serve a block: it is long enough to make them for, and no reading is subnormal.
+// Whether the tables of the exponent fields serve a part: it is long enough to make them for, and no reading is subnormal.
 fn fields_serve(readings: &[u32]) -> bool
     requires { ⌜ length (now readings) ≤ 65536 ⌝ }
     ensures { λ r. ⌜ (r ≡ true → NoSubnormal (now (readings .entry))) ⌝ }
@@ -182,8 +182,8 @@ fn fields_serve(readings: &[u32]) -> bool
     subnormal_singles(readings) == 0
 }
 
-// Method 6 over a block of singles, by whichever serves. The table is named once for the block.
-fn digits_block(readings: &mut [u32], n: u32, mark: u32) -> loops::Sums
+// Method 6 by whichever serves. The table is named once for the part.
+fn digits_part(readings: &mut [u32], n: u32, mark: u32) -> loops::Sums
     requires { ⌜ ((1 ≤ n) × (n ≤ 7)) × (length (now readings) ≤ 65536) ⌝ }
     ensures sums { λ r. ⌜ sumsOf r ≡ tallied (settledBy 23 8 (digits n) mark 0) (now (readings .entry)) ⌝ }
     ensures content { λ _. ⌜ now (readings .exit) ≡ walked (settledBy 23 8 (digits n) mark 0) (now (readings .entry)) ⌝ }
@@ -233,7 +233,7 @@ pub struct Job {
 }
 
 // The trim by a method's number and its natural setting. Methods 5 and 6 have no tail.
-pub fn job_single(method: u32, n: u32) -> Job
+fn job_single(method: u32, n: u32) -> Job
     requires { ⌜ Fitting method n 23 7 ⌝ }
     ensures method { λ r. ⌜ r .method ≡ method ⌝ }
     ensures setting { λ r. ⌜ r .n ≡ n ⌝ }
@@ -260,14 +260,14 @@ fn add_single(method: u32, tail: single::Tail) -> u32
     0
 }
 
-// A block by any method but grooming.
+// A part by any method but grooming.
 fn plain_singles(readings: &mut [u32], job: Job, mark: u32) -> loops::Sums
     requires { ⌜ (Suits 23 7 (job .method) (job .n) (constantsOf (job .tail))) × (job .method ≢ 2) × (length (now readings) ≤ 65536) ⌝ }
     ensures sums { λ r. ⌜ sumsOf r ≡ tallied (settledBy 23 8 (methodBy (job .method) (job .n)) mark 0) (now (readings .entry)) ⌝ }
     ensures content { λ _. ⌜ now (readings .exit) ≡ walked (settledBy 23 8 (methodBy (job .method) (job .n)) mark 0) (now (readings .entry)) ⌝ }
 {
     if job.method == 6 {
-        return digits_block(readings, job.n, mark);
+        return digits_part(readings, job.n, mark);
     }
     if job.method == 5 {
         return step_singles(readings, job.n, mark);
@@ -281,7 +281,7 @@ fn plain_singles(readings: &mut [u32], job: Job, mark: u32) -> loops::Sums
 }
 
 // A part of an array, where grooming puts `add` into the first tail.
-pub fn part_singles(readings: &mut [u32], job: Job, add: u32, mark: u32) -> Part
+fn part_singles(readings: &mut [u32], job: Job, add: u32, mark: u32) -> Part
     requires { ⌜ (Suits 23 7 (job .method) (job .n) (constantsOf (job .tail))) × (add ≤ job .tail .ones) × (length (now readings) ≤ 65536) ⌝ }
     ensures sums { λ r. ⌜ sumsOf (r .sums) ≡ talliedBy (nextWith 23 (job .method) (job .n)) (settledWith 23 8 (job .method) (job .n) mark) add (now (readings .entry)) ⌝ }
     ensures add { λ r. ⌜ r .add ≡ stateAt (nextWith 23 (job .method) (job .n)) add (now (readings .entry)) (length (now (readings .entry))) ⌝ }

@@ -31,13 +31,13 @@ groom-doubles-spec =
     (λ c κs. (c .before .before .before .before .before .pre .0, c .before .before .loop .inv .1))
     (λ c. omega arith)
     (λ c. omega arith)
-    (λ c κs. room (c .before .before .before .loop .inv .0) (omega arith) (c .tail-double .ensures))
+    (λ c κs. room (c .before .before .before .loop .inv .0) (omega arith) (c .tail-double .ensures .0))
     (λ c. omega arith)
     (λ c. omega arith)
     (λ c. omega arith)
     (λ c.
     let at = c .before .before .before .before .before .loop in
-    (step (at .inv .0) (omega arith) (c .before .before .tail-double .ensures) (c .before .plus .ensures) refl, omega arith))
+    (step (at .inv .0) (omega arith) (c .before .before .tail-double .ensures .0) (c .before .plus .ensures) refl, omega arith))
     (λ c. search needs)
     (λ c.
     let at = c .before .loop in

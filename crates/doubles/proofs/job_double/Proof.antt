@@ -1,4 +1,4 @@
--- The constants are those of the method's keep bits, or of none.
+-- The constants are those of the method's keep bits; a method without any has no tail.
 use borrow.Author.Needs.{needs}
 use mathlib.Core.Path.{refl, _∙_}
 use native.Mathlib.Omega.{arith}

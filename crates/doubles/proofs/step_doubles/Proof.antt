@@ -1,6 +1,5 @@
 -- Either loop's outcome is the method's.
 use borrow.Author.Needs.{needs}
-use native.Mathlib.Omega.{arith}
 use Rattle.doubles.proofs.step_doubles.Statement.{statement}
 use Rattle.doubles.proofs.step_doubles.Tie as tie
 

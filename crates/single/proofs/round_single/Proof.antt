@@ -1,14 +1,15 @@
--- The new pattern and the clip are the definition's by `round-cut` and `over-cut`, where the reading is finite.
+-- The words are those of `roundWord` and `roundOver`; every sum has room.
 use borrow.Author.Needs.{needs}
-use mathlib.Core.Path.{refl, _∙_}
-use Prim.Native.Nat.{_-_, _%_, _^_}
-use Rattle.meaning.specs.Methods.{round, newMagnitude}
+use mathlib.Core.Path.{_≡_, refl, _∙_}
+use Prim.Native.Nat.{_+_, _-_, _%_, _^_, _<_}
 use native.Mathlib.Omega.{arith}
 use lib.Bits.{bitAnd, and-le-l}
 use lib.Pow.{pow-pos, pow-mono}
-use Rattle.meaning.specs.Readings.{magnitude, infinity}
-use Rattle.reading.proofs.Settled.{settled-by}
-use Rattle.reading.proofs.Tails.{half-positive, only-finite, round-cut, over-cut}
+use Rattle.meaning.specs.Readings.{magnitude, finite}
+use Rattle.reading.specs.Left.{settledFrom}
+use Rattle.reading.specs.Tails.{nearWord, roundWord, roundOver}
+use Rattle.reading.proofs.Tails.{half-positive, wrapped, settled-round}
+use Rattle.single.specs.Left.{settledOf, constantsOf}
 use Rattle.single.proofs.round_single.Statement.{statement}
 use Rattle.single.proofs.round_single.Tie as tie
 
@@ -28,25 +29,26 @@ add-below-single c =
     let s = c .before .before .before .before .before .before in
     omega (arith, s .pre .0 .is-ones, pow-mono {i = s .args .tail .bits} {j = 23} (omega arith))
 
-returns : tie.Need-returns
-unfolding magnitude
-returns c =
+words : (c : tie.After-settle-single)
+    → let s = c .before .before .before .before .before .before .before .before .before .before .args in
+    settledOf (c .settle-single .result) ≡ settledFrom (s .mark) (s .x) (roundWord 23 8 (constantsOf (s .tail)) (s .x)) (roundOver 23 8 (constantsOf (s .tail)) (s .x))
+unfolding roundWord roundOver nearWord finite magnitude
+words c =
     let s = c .before .before .before .before .before .before .before .before .before .before in
-    let x = s .args .x in
-    let t = s .args .tail .bits in
     let near = c .before .before .before .before .before .before .before .wrapping-add-u32 in
     let over = c .before .before .before .before .before .below-single in
     let back = c .before .before .before .below-single2 in
     let y = c .before .before .wrapping-sub-u32 in
     let z = c .before .below-single3 in
     let up = near .result - bitAnd (near .result) (s .args .tail .ones) in
-    let half = s .pre .0 .is-half ∙ half-positive t (omega arith) in
-    c .settle-single .ensures
-    ∙ settled-by 23 8 (round (23 - t)) (s .args .mark) x (newMagnitude 23 8 (round (23 - t)) 0 (magnitude 23 8 x)) (over .result) (z .result) (λ f. refl)
-    (λ f. over-cut 23 8 x t (s .args .tail .half) (s .args .tail .ones) (near .result) up (up % 2 ^ 31) (back .result) (y .result) (omega arith) (omega arith) half (s .pre .0 .is-ones)
-    (search needs) (search needs) (near .ensures) refl refl (back .ensures) (y .ensures) f (over .result) (over .ensures))
-    (z .ensures ∙ only-finite (magnitude 23 8 x) (infinity 23 8) (y .result) _ x (λ f. round-cut 23 8 x t (s .args .tail .half) (s .args .tail .ones) (near .result) up (up % 2 ^ 31)
-    (back .result) (y .result) (omega arith) (omega arith) half (s .pre .0 .is-ones) (search needs) (search needs) (near .ensures) refl refl (back .ensures) (y .ensures) f))
+    let short : back .result < 2 ^ 32 = search needs in
+    let is : y .result ≡ (up + (2 ^ 32 - back .result)) % 2 ^ 32 = wrapped (2 ^ 32) (y .result) (back .result) up (search needs) short (y .ensures) in
+    c .settle-single .ensures ∙ rw (z .ensures, is, back .ensures, over .ensures, near .ensures) refl
+
+returns : tie.Need-returns
+returns c =
+    let s = c .before .before .before .before .before .before .before .before .before .before in
+    (words c ∙ settled-round 23 8 (constantsOf (s .args .tail)) (s .pre .0) (s .args .mark) (s .args .x) (s .pre .1) (search needs), words c)
 
 pub round-single-spec : {M : Type 1} → statement M
 round-single-spec =

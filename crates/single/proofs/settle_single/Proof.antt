@@ -5,24 +5,6 @@ use Rattle.reading.proofs.Settled.{left-from}
 use Rattle.single.proofs.settle_single.Statement.{statement}
 use Rattle.single.proofs.settle_single.Tie as tie
 
-choose-single-requires : tie.Need-choose-single-requires
-choose-single-requires c κs = tt
-
-choose-single-requires-2 : tie.Need-choose-single-requires-2
-choose-single-requires-2 c κs = tt
-
-choose-single-requires-3 : tie.Need-choose-single-requires-3
-choose-single-requires-3 c κs = tt
-
-choose-single-requires-4 : tie.Need-choose-single-requires-4
-choose-single-requires-4 c κs = tt
-
-choose-single-requires-5 : tie.Need-choose-single-requires-5
-choose-single-requires-5 c κs = tt
-
-choose-single-requires-6 : tie.Need-choose-single-requires-6
-choose-single-requires-6 c κs = tt
-
 returns : tie.Need-returns
 unfolding settledFrom
 returns c =
@@ -35,4 +17,4 @@ returns c =
     simp (c .choose-single6 .ensures, c .before .choose-single5 .ensures, c .before .before .choose-single4 .ensures, pattern, left .1)
 
 pub settle-single-spec : {M : Type 1} → statement M
-settle-single-spec = tie.close (tie.spec choose-single-requires choose-single-requires-2 choose-single-requires-3 choose-single-requires-4 choose-single-requires-5 choose-single-requires-6 returns)
+settle-single-spec = tie.close (tie.spec (λ c κs. tt) (λ c κs. tt) (λ c κs. tt) (λ c κs. tt) (λ c κs. tt) (λ c κs. tt) returns)

@@ -55,7 +55,7 @@ is : (c : tie.After-tail-single Inv-loop μ-loop)
 is c =
     let s = c .before .before .before .before .before .before .before .before .args in
     let at = c .before .before .before .before .loop in
-    c .tail-single .ensures ∙ ap (λ (a : ℕ). settledTail 23 8 (s .tail .bits) a (s .mark) (getD (at .readings) (at .i) 0)) (added (c .before .before))
+    c .tail-single .ensures .0 ∙ ap (λ (a : ℕ). settledTail 23 8 (s .tail .bits) a (s .mark) (getD (at .readings) (at .i) 0)) (added (c .before .before))
 
 pub groom-singles-spec : {M : Type 1} → statement M
 groom-singles-spec =

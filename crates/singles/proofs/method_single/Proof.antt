@@ -28,7 +28,7 @@ method-single-spec =
     let s = c .before .before .before .before .before .before .args in
     let j = c .before .before .before .before .before .job-single in
     let two = c .before .before .before .if1 .taken in
-    c .tail-single .ensures
+    c .tail-single .ensures .0
     ∙ groom-at 23 8 (j .result .method) (j .result .n) (s .mark) two (constantsOf (j .result .tail)) (suits-keep (j .ensures .1 .1) (omega arith)) (s .place) (s .x) (c .before .choose-single .ensures)
     ∙ ap₂ (λ (m n : ℕ). settledBy 23 8 (methodBy m n) (s .mark) (s .place) (s .x)) (j .ensures .0) (j .ensures .1 .0))
     (λ c κs. (c .before .before .job-single .ensures .1 .1, c .if1 .left))

@@ -44,5 +44,5 @@ plain-single-spec =
     (λ c.
     let s = c .before .before .before .before .before .before .before .before .before in
     let m = low (c .before .before) in
-    c .tail-single .ensures
+    c .tail-single .ensures .0
     ∙ by-tail 23 8 (s .args .mark) (s .args .job .method) (s .args .job .n) (suits-keep (s .pre .0) (omega (arith, m))) m (s .pre .1) (c .before .add-single .ensures) (s .args .x)))

@@ -27,7 +27,7 @@ plain-singles-spec =
     (λ c. search needs)
     (λ c.
     let s = c .before .before .before .before .before .before .before .args in
-    over-all (s .readings .now) _ _ (by-digits 23 8 (s .mark) (s .job .method) (s .job .n) (c .before .before .before .before .if1 .taken)) (c .before .before .digits-block .ensures))
+    over-all (s .readings .now) _ _ (by-digits 23 8 (s .mark) (s .job .method) (s .job .n) (c .before .before .before .before .if1 .taken)) (c .before .before .digits-part .ensures))
     (λ c κs. search needs)
     (λ c. search needs)
     (λ c.

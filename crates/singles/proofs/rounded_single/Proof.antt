@@ -10,6 +10,6 @@ rounded-single-spec =
     tie.close
     (tie.spec
     (λ c κs. search needs)
-    (λ c. let s = c .before .before .before .args in c .tail-single .ensures ∙ by-none 23 8 (s .mark) (c .before .if1 .taken) (s .x))
+    (λ c. let s = c .before .before .before .args in c .tail-single .ensures .0 ∙ by-none 23 8 (s .mark) (c .before .if1 .taken) (s .x))
     (λ c κs. search needs)
     (λ c. search needs))

@@ -1,6 +1,5 @@
 -- Either loop's outcome is the method's.
 use borrow.Author.Needs.{needs}
-use native.Mathlib.Omega.{arith}
 use Rattle.singles.proofs.step_singles.Statement.{statement}
 use Rattle.singles.proofs.step_singles.Tie as tie
 

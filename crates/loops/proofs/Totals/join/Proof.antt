@@ -1,4 +1,4 @@
--- Each sum has room for the block's.
+-- Each sum has room for the part's.
 use borrow.Author.Needs.{needs}
 use Rattle.loops.specs.Tallies.{plus}
 use Rattle.loops.proofs.Totals.join.Statement.{statement}

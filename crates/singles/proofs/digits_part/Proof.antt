@@ -1,7 +1,7 @@
--- Either loop makes the same of the block.
+-- Either loop makes the same of the part.
 use borrow.Author.Needs.{needs}
-use Rattle.singles.proofs.digits_block.Statement.{statement}
-use Rattle.singles.proofs.digits_block.Tie as tie
+use Rattle.singles.proofs.digits_part.Statement.{statement}
+use Rattle.singles.proofs.digits_part.Tie as tie
 
 fields-serve-requires : tie.Need-fields-serve-requires
 fields-serve-requires c κs = search needs
@@ -32,8 +32,8 @@ same-length-2 c = search needs
 returns-2 : tie.Need-returns-2
 returns-2 c = search needs
 
-pub digits-block-spec : {M : Type 1} → statement M
-digits-block-spec =
+pub digits-part-spec : {M : Type 1} → statement M
+digits-part-spec =
     tie.close
     (tie.spec
     fields-serve-requires
