@@ -27,7 +27,7 @@ def size(readings):
 
 print(f"as sent: {size(sent):.2f} MB of {4 * N / 1e6:.2f}")
 for keep in (11, 9, 7, 5):
-    trimmed, counts = sent[:], (ctypes.c_uint64 * 4)()
+    trimmed, counts = sent[:], (ctypes.c_uint64 * 6)()
     if trim(trimmed.buffer_info()[0], N, ROUND, keep, MARK, counts):
         sys.exit("refused")
     largest = max(abs(a - b) for a, b in zip(sent, trimmed))

@@ -1,4 +1,4 @@
-/* Times each trim beside memcpy and beside branch-free C that rounds with a mark and four counts, in one run. Prints ns a reading, and the ratio to that C.
+/* Times each trim beside memcpy and beside branch-free C that rounds with a mark and six counts, in one run. Prints ns a reading, and the ratio to that C.
  * The C is this file's own, plain and fast, and is checked against the library's counts and patterns before anything is timed. */
 #include "../include/megharutti.h"
 #include "clock.h"
@@ -9,13 +9,13 @@
 
 enum { TURNS = 25, WORKS = 9 };
 
-/* Round with a mark and four counts, written so that gcc can work on several readings at once: every outcome is computed and chosen last. */
-static void round_singles(uint32_t *w, size_t n, int k, uint32_t mark, uint64_t counts[4]) {
+/* Round with a mark and six counts, written so that gcc can work on several readings at once: every outcome is computed and chosen last. */
+static void round_singles(uint32_t *w, size_t n, int k, uint32_t mark, uint64_t counts[6]) {
     const uint32_t t = 23 - k, unit = 1u << t, half = (unit >> 1) - 1, cut = ~(unit - 1), infinity = 0x7F800000;
-    uint64_t changed = 0, spared = 0, clipped = 0, missing = 0;
+    uint64_t changed = 0, spared = 0, clipped = 0, missing = 0, risen = 0;
     for (size_t from = 0; from < n; from += 4096) {
         size_t to = n - from < 4096 ? n : from + 4096;
-        uint32_t a = 0, b = 0, c = 0, d = 0;
+        uint32_t a = 0, b = 0, c = 0, d = 0, e = 0;
         for (size_t i = from; i < to; i++) {
             uint32_t x = w[i], m = x & 0x7FFFFFFF, sign = x ^ m;
             uint32_t up = (m + half + ((m >> t) & 1)) & cut;
@@ -28,15 +28,16 @@ static void round_singles(uint32_t *w, size_t n, int k, uint32_t mark, uint64_t 
             b += hit;
             c += go & over;
             d += gone;
+            e += (y != x) & (((x - y) ^ x) >> 31);
         }
-        changed += a, spared += b, clipped += c, missing += d;
+        changed += a, spared += b, clipped += c, missing += d, risen += e;
     }
-    counts[0] = changed, counts[1] = spared, counts[2] = clipped, counts[3] = missing;
+    counts[0] = changed, counts[1] = spared, counts[2] = clipped, counts[3] = missing, counts[4] = risen, counts[5] = changed - risen;
 }
 
-static void round_doubles(uint64_t *w, size_t n, int k, uint64_t mark, uint64_t counts[4]) {
+static void round_doubles(uint64_t *w, size_t n, int k, uint64_t mark, uint64_t counts[6]) {
     const uint64_t t = 52 - k, unit = 1ull << t, half = (unit >> 1) - 1, cut = ~(unit - 1), infinity = 0x7FF0000000000000;
-    uint64_t a = 0, b = 0, c = 0, d = 0;
+    uint64_t a = 0, b = 0, c = 0, d = 0, e = 0;
     for (size_t i = 0; i < n; i++) {
         uint64_t x = w[i], m = x & 0x7FFFFFFFFFFFFFFF, sign = x ^ m;
         uint64_t up = (m + half + ((m >> t) & 1)) & cut;
@@ -49,13 +50,14 @@ static void round_doubles(uint64_t *w, size_t n, int k, uint64_t mark, uint64_t 
         b += hit;
         c += go & over;
         d += gone;
+        e += (y != x) & (((x - y) ^ x) >> 63);
     }
-    counts[0] = a, counts[1] = b, counts[2] = c, counts[3] = d;
+    counts[0] = a, counts[1] = b, counts[2] = c, counts[3] = d, counts[4] = e, counts[5] = a - e;
 }
 
 /* 0 is memcpy, 1 the C above, 2 + method the library. */
 static int wide;
-static void work(int which, void *to, const void *from, size_t n, uint64_t counts[4]) {
+static void work(int which, void *to, const void *from, size_t n, uint64_t counts[6]) {
     if (which == 0)
         memcpy(to, from, n * (wide ? 8 : 4));
     else if (which == 1 && wide)
@@ -70,7 +72,7 @@ static void work(int which, void *to, const void *from, size_t n, uint64_t count
 
 /* The least of several turns, each on a fresh copy: what the work takes where nothing disturbs it. The works take turns, so that a disturbance meets them all. */
 static void least(double best[WORKS], void *to, const void *from, size_t n) {
-    uint64_t counts[4];
+    uint64_t counts[6];
     for (int which = 0; which < WORKS; which++)
         best[which] = 1e18;
     for (int i = 0; i < TURNS; i++)
@@ -95,7 +97,7 @@ int main(void) {
                 double v = (draw() >> 11) * 0x1p-53 * 100;
                 put(from, i, wide, v, draw() % 20 == 0);
             }
-            uint64_t ours[4], theirs[4];
+            uint64_t ours[6], theirs[6];
             memcpy(to, from, bytes), memcpy(other, from, bytes);
             work(1, to, from, n, theirs), work(6, other, from, n, ours);
             if (memcmp(to, other, bytes) || memcmp(ours, theirs, sizeof ours))

@@ -34,9 +34,9 @@ air = [10.02, 10.48, None, 12.11, 0.5, 0.25, 0.75, None]
 length = 4
 n, layers = len(air), len(air) // length
 readings = (u32 * n)(*map(pattern, air))
-counts = (u64 * 4)()
+counts = (u64 * 6)()
 accepted(library.megharutti_trim_singles(readings, n, ROUND, 7, MARK, counts))
-print("trimmed: changed %d, spared %d, clipped %d, missing %d" % tuple(counts))
+print("trimmed: changed %d, spared %d, clipped %d, missing %d, risen %d, fallen %d" % tuple(counts))
 
 codes, references, exponents = (u16 * n)(), (f32 * layers)(), (i32 * layers)()
 accepted(library.megharutti_pack(readings, n, MARK, length, codes, n, references, layers, exponents, layers))

@@ -21,16 +21,17 @@ static float value(uint32_t bits) {
 int main(void) {
     const uint32_t mark = 0x7CF00000; /* the network's mark for a missing reading */
 
-    /* One reading, to 7 keep bits. An answer from 2^32 on is a refusal. */
+    /* One reading, to 7 keep bits. The lower half of the answer is the pattern, or the number of a refusal; the upper half says which. */
     uint64_t one = megharutti_trim_single(pattern(3.14159274f), MEGHARUTTI_ROUND, 7, mark, 0);
-    if (one >> 32)
-        return printf("refused, %" PRIu64 "\n", one - (UINT64_C(1) << 32)), 1;
-    printf("one reading: %08" PRIX32 ", %.7g\n", (uint32_t)one, value((uint32_t)one));
+    uint32_t half = (uint32_t)one, above = (uint32_t)(one >> 32);
+    if (above == 1)
+        return printf("refused, %" PRIu32 "\n", half), 1;
+    printf("one reading: %08" PRIX32 ", %.7g, %s\n", half, value(half), above == 2 ? "rose" : above == 4 ? "fell" : "stayed");
 
     /* An array, to the nearest eighth. */
     uint32_t rain[] = {pattern(0.0f), pattern(0.2f), mark, pattern(12.3f), pattern(3.4e38f)};
     const size_t n = sizeof rain / sizeof *rain;
-    uint64_t counts[4];
+    uint64_t counts[6];
     uint32_t answer = megharutti_trim_singles(rain, n, MEGHARUTTI_ABSOLUTE, -3, mark, counts);
     if (answer != MEGHARUTTI_ACCEPTED)
         return printf("refused, %" PRIu32 "\n", answer), 1;
@@ -39,7 +40,8 @@ int main(void) {
             puts("missing");
         else
             printf("%08" PRIX32 ", %.7g\n", rain[i], value(rain[i]));
-    printf("changed %" PRIu64 ", spared %" PRIu64 ", clipped %" PRIu64 ", missing %" PRIu64 "\n", counts[0], counts[1], counts[2], counts[3]);
+    printf("changed %" PRIu64 ", spared %" PRIu64 ", clipped %" PRIu64 ", missing %" PRIu64 ", risen %" PRIu64 ", fallen %" PRIu64 "\n", counts[0], counts[1],
+           counts[2], counts[3], counts[4], counts[5]);
 
     /* A setting out of range is refused, and the array is as it was. */
     answer = megharutti_trim_singles(rain, n, MEGHARUTTI_ROUND, 24, mark, counts);

@@ -1,7 +1,10 @@
 /* Megharutti: trims false precision from IEEE 754 singles and doubles, and packs singles into layers of 16-bit codes.
  *
- * Every call below is proved to give, for every input, what document 01 of the association defines. What is proved and what is assumed of
- * the caller stands in docs/PROOFS.md.
+ * Every call below is proved to give, for every input, what document 01 of the association defines, with request (a) of its document 02. What
+ * is proved and what is assumed of the caller stands in docs/PROOFS.md.
+ *
+ * Coming from version 1: the array for the counts has six elements and not four, so enlarge it, or the call writes behind it; and the answer of
+ * megharutti_trim_single says more, so take (uint32_t)answer for the pattern, and answer >> 32 == 1 for a refusal.
  *
  * A reading is the bit pattern of a float, in a uint32_t (single) or a uint64_t (double). The mark is the pattern that means missing. It is
  * compared by its bits, and any pattern may be the mark.
@@ -47,7 +50,7 @@
 #include <stdint.h>
 
 /* The version of this header, of the library and of the program trimlist. */
-#define MEGHARUTTI_VERSION "1.2.0"
+#define MEGHARUTTI_VERSION "2.0.0"
 
 #ifdef __cplusplus
 extern "C" {
@@ -80,13 +83,15 @@ enum megharutti_answer {
 /* The code of a missing reading. */
 #define MEGHARUTTI_MISSING_CODE 65535
 
-/* Trims n readings in place. Answers 0 and writes the places changed, spared, clipped and missing to `counts`; or answers the refusal's
- * number, and neither the readings nor `counts` are written. */
-uint32_t megharutti_trim_singles(uint32_t *readings, size_t n, uint32_t method, int32_t setting, uint32_t mark, uint64_t counts[4]);
-uint32_t megharutti_trim_doubles(uint64_t *readings, size_t n, uint32_t method, int32_t setting, uint64_t mark, uint64_t counts[4]);
+/* Trims n readings in place. Answers 0 and writes six numbers of places to `counts`: changed, spared, clipped, missing, risen and fallen;
+ * or answers the refusal's number, and neither the readings nor `counts` are written. A place is risen or fallen where the reading's exact
+ * value is larger or smaller than before, with its sign: shaving a negative reading is a rise. Changed is the sum of risen and fallen. */
+uint32_t megharutti_trim_singles(uint32_t *readings, size_t n, uint32_t method, int32_t setting, uint32_t mark, uint64_t counts[6]);
+uint32_t megharutti_trim_doubles(uint64_t *readings, size_t n, uint32_t method, int32_t setting, uint64_t mark, uint64_t counts[6]);
 
-/* Trims one single as megharutti_trim_singles would at that place of an array. Answers the pattern that is left, or 2^32 plus the refusal's
- * number. Only the parity of the place matters. */
+/* Trims one single as megharutti_trim_singles would at that place of an array. The lower 32 bits of the answer are the pattern that is left.
+ * Above them stands 0 where the exact value stayed, 2 where it rose and 4 where it fell (2^33 or 2^34 was added); or 1 where the call is
+ * refused, and then the lower 32 bits are the refusal's number. Only the parity of the place matters. */
 uint64_t megharutti_trim_single(uint32_t reading, uint32_t method, int32_t setting, uint32_t mark, uint64_t place);
 
 /* Packs n readings into layers of `length`. Answers 0 and writes n codes, and a reference and an exponent for each of the n / length layers;

@@ -2,8 +2,9 @@
 //!
 //! The exact model takes too long for so many patterns. A fast form of it, in machine words, stands in; it is itself compared with the
 //! exact one, on patterns strewn over all and on those around each place where its rule changes.
-use crate::model::{left, Form};
+use crate::model::{left, number, ways, Form};
 use crate::{megharutti_trim_single, megharutti_trim_singles, Job, Tally};
+use std::cmp::Ordering;
 use std::time::Instant;
 
 const MARK: u32 = 0x7CF00000;
@@ -58,6 +59,8 @@ fn fast(rule: Rule, m: u32) -> (u32, bool) {
         }
     }
 }
+/// How a pattern moves, by the machine's floats. A NaN stays.
+fn moved(old: u32, new: u32) -> Ordering { f32::from_bits(new).partial_cmp(&f32::from_bits(old)).unwrap_or(Ordering::Equal) }
 /// The rule of the stretch that a magnitude lies in.
 fn rule_at(stretches: &[Stretch], m: u32) -> Rule { stretches[stretches.partition_point(|x| x.from <= m) - 1].rule }
 
@@ -69,16 +72,17 @@ fn beside_exact(t: &mut Tally, form: &Form, job: Job, stretches: &[Stretch]) -> 
     for old in strewn.chain(around) {
         let (m, sign) = (old as u32 % SIGN, old as u32 & SIGN);
         let (new, clipped) = fast(rule_at(stretches, m), m);
-        let exact = form.trim(job.method, job.setting, old, false);
+        let exact = form.own(job.method, job.setting, old, false);
         t.same((new + sign) as u64, exact.0, || job.at("fast form of the model", 0, old));
         t.same(clipped as u64, exact.1 as u64, || job.at("fast form of the model, clipping", 0, old));
+        t.same(moved(old as u32, new + sign) as u64, exact.2 as u64, || job.at("fast form of the model, its move", 0, old));
         n += 1;
     }
     n
 }
 /// What a block of patterns becomes, and its counts, by the fast form.
-fn block_after(stretches: &[Stretch], before: &[u32], after: &mut [u32]) -> [u64; 4] {
-    let mut counts = [0; 4];
+fn block_after(stretches: &[Stretch], before: &[u32], after: &mut [u32]) -> [u64; 6] {
+    let mut counts = [0; 6];
     let (sign, first, end) = (before[0] & SIGN, before[0] % SIGN, (before[0] % SIGN) as u64 + before.len() as u64);
     let mut at = stretches.partition_point(|x| x.from <= first) - 1;
     let mut from = first as u64;
@@ -86,19 +90,20 @@ fn block_after(stretches: &[Stretch], before: &[u32], after: &mut [u32]) -> [u64
         let to = stretches.get(at + 1).map_or(end, |next| end.min(next.from as u64));
         for m in from as u32..to as u32 {
             let (new, clipped) = fast(stretches[at].rule, m);
-            let (new, kinds) = left((sign + m) as u64, ((sign + new) as u64, clipped), MARK as u64);
+            let own = ((sign + new) as u64, clipped, moved(sign + m, sign + new));
+            let (new, kinds) = left((sign + m) as u64, own, MARK as u64);
             after[(m - first) as usize] = new as u32;
-            (0..4).for_each(|k| counts[k] += kinds[k] as u64);
+            (0..6).for_each(|k| counts[k] += kinds[k] as u64);
         }
         (from, at) = (to, at + 1);
     }
     counts
 }
 /// One call on a block, after so many readings of the least size.
-fn array(t: &mut Tally, job: Job, before: &[u32], after: &[u32], counts: [u64; 4], least: usize) {
+fn array(t: &mut Tally, job: Job, before: &[u32], after: &[u32], counts: [u64; 6], least: usize) {
     let mut lent: Vec<u32> = vec![1; least];
     lent.extend_from_slice(before);
-    let mut told = [0; 4];
+    let mut told = [9; 8]; // the last two are outside
     let answer = unsafe { megharutti_trim_singles(lent.as_mut_ptr(), lent.len(), job.method, job.setting, MARK, told.as_mut_ptr()) };
     t.same(answer as u64, 0, || job.at("answer", 0, before[0] as u64));
     t.compared += before.len() as u64;
@@ -106,16 +111,18 @@ fn array(t: &mut Tally, job: Job, before: &[u32], after: &[u32], counts: [u64; 4
         t.compared -= before.len() as u64;
         (0..before.len()).for_each(|i| t.same(lent[least + i] as u64, after[i] as u64, || job.at("array", i as u64, before[i] as u64)));
     }
-    // The least reading is a zero by round and stays by digits.
-    let changed = least as u64 * (job.method == 4) as u64;
-    (0..4).for_each(|k| t.same(told[k], counts[k] + changed * (k == 0) as u64, || job.at("counts", k as u64, before[0] as u64)));
+    // The least reading is a zero by round, which is a fall, and stays by digits.
+    let fallen = least as u64 * (job.method == 4) as u64;
+    (0..6).for_each(|k| t.same(told[k], counts[k] + fallen * matches!(k, 0 | 5) as u64, || job.at("counts", k as u64, before[0] as u64)));
+    (6..8).for_each(|k| t.same(told[k], 9, || job.at("outside the counts", k as u64, before[0] as u64)));
+    t.same(told[4].wrapping_add(told[5]), told[0], || job.at("risen and fallen, by changed", 0, before[0] as u64));
 }
 fn every_pattern(t: &mut Tally, form: &Form, job: Job) {
     let began = Instant::now();
     let stretches = stretches(form, job);
     let sample = beside_exact(t, form, job, &stretches);
     println!("method {} setting {}: fast form of the model beside the exact one, {sample} patterns", job.method, job.setting);
-    let (mut after, mut sums) = (vec![0; BLOCK], [0; 4]);
+    let (mut after, mut sums) = (vec![0; BLOCK], [0; 6]);
     let patterns = 1u64 << 32;
     for from in (0..patterns).step_by(BLOCK) {
         let before: Vec<u32> = (0..BLOCK as u32).map(|i| from as u32 + i).collect();
@@ -125,13 +132,15 @@ fn every_pattern(t: &mut Tally, form: &Form, job: Job) {
         array(t, job, &before, &after, counts, 1);
         for (&old, &new) in before.iter().zip(&after) {
             let got = unsafe { megharutti_trim_single(old, job.method, job.setting, MARK, 0) };
-            t.same(got, new as u64, || job.at("loader", 0, old as u64));
+            let [risen, fallen] = ways(moved(old, new));
+            t.same(got, number(new as u64, risen, fallen), || job.at("loader", 0, old as u64));
         }
-        (0..4).for_each(|k| sums[k] += counts[k]);
+        (0..6).for_each(|k| sums[k] += counts[k]);
     }
-    let [changed, spared, clipped, missing] = sums;
+    let [changed, spared, clipped, missing, risen, fallen] = sums;
     println!("method {} setting {} mark {MARK:08X}: {patterns} patterns, in two arrays each and by the loader", job.method, job.setting);
-    println!("  changed {changed}, spared {spared}, clipped {clipped}, missing {missing}; {} differences", t.lines);
+    println!("  changed {changed}, spared {spared}, clipped {clipped}, missing {missing}, risen {risen}, fallen {fallen}");
+    println!("  {} differences", t.lines);
     println!("  {} s", began.elapsed().as_secs());
 }
 pub fn run(t: &mut Tally, form: &Form) { JOBS.iter().for_each(|&job| every_pattern(t, form, job)); }

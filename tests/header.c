@@ -1,4 +1,4 @@
-/* include/megharutti.h from C: every call that it declares, on cases of document 01. */
+/* include/megharutti.h from C: every call that it declares, on cases of documents 01 and 02. */
 #include "../include/megharutti.h"
 #include <stdio.h>
 
@@ -13,32 +13,63 @@ static void check(const char *what, uint64_t got, uint64_t expected) {
 
 int main(void) {
     const uint32_t mark = 0x7CF00000, pi = 0x40490FDB;
-    uint64_t counts[4] = {9, 9, 9, 9};
+    uint64_t counts[7] = {9, 9, 9, 9, 9, 9, 9}; /* the last is none of them */
 
-    uint32_t singles[3] = {pi, mark, 0x7F7FFFFF};
-    check("singles accepted", megharutti_trim_singles(singles, 3, 4, 7, mark, counts), 0);
+    /* each count is another number */
+    uint32_t singles[16] = {pi, mark, 0x7F7FFFFF, 0xC0490FDB, 0xFF7FFFFF, 0xBF800001, 0xBFFFFFFF, 0x3FFFFFFF,
+                            0xFF7FFFFE, 0x7CF00001, 0x7CEFFFFF, 0x00000001, 0xBF800000, 0x3F800000, 0x80000001, 0x7F800000};
+    check("singles accepted", megharutti_trim_singles(singles, 16, 4, 7, mark, counts), 0);
     check("pi rounded", singles[0], 0x40490000);
     check("the mark", singles[1], mark);
     check("the largest finite single clipped", singles[2], 0x7F7F0000);
-    check("changed", counts[0], 2);
-    check("spared", counts[1], 0);
-    check("clipped", counts[2], 1);
+    check("-pi rounded", singles[3], 0xC0490000);
+    check("the least finite single clipped", singles[4], 0xFF7F0000);
+    check("a single below the mark spared", singles[10], 0x7CEFFFFF);
+    check("a tiny single", singles[14], 0x80000000);
+    check("changed", counts[0], 10);
+    check("spared", counts[1], 2);
+    check("clipped", counts[2], 3);
     check("missing", counts[3], 1);
+    check("risen", counts[4], 6);
+    check("fallen", counts[5], 4);
+    check("behind the counts", counts[6], 9);
 
-    check("singles refused", megharutti_trim_singles(singles, 3, 4, 24, mark, counts), 2);
+    check("singles refused", megharutti_trim_singles(singles, 16, 4, 24, mark, counts), 2);
     check("after a refusal", singles[0], 0x40490000);
-    check("counts after a refusal", counts[0], 2);
+    const uint64_t kept[7] = {10, 2, 3, 1, 6, 4, 9};
+    for (int i = 0; i < 7; i++)
+        check("counts after a refusal", counts[i], kept[i]);
     check("no readings", megharutti_trim_singles(singles, 0, 0, 0, mark, counts), 0);
-    check("no places", counts[0] + counts[1] + counts[2] + counts[3], 0);
+    check("no places", counts[0] + counts[1] + counts[2] + counts[3] + counts[4] + counts[5], 0);
 
-    uint64_t doubles[1] = {0x400921FB54442D18};
-    check("doubles accepted", megharutti_trim_doubles(doubles, 1, 0, 7, 0, counts), 0);
+    uint64_t doubles[3] = {0x400921FB54442D18, 0xC00921FB54442D18, 0xBFF0000000000001};
+    check("doubles accepted", megharutti_trim_doubles(doubles, 3, 0, 7, 0, counts), 0);
     check("pi shaved", doubles[0], 0x4009200000000000);
-    check("doubles refused", megharutti_trim_doubles(doubles, 1, 7, 0, 0, counts), 1);
+    check("-pi shaved", doubles[1], 0xC009200000000000);
+    check("doubles changed", counts[0], 3);
+    check("doubles risen", counts[4], 2);
+    check("doubles fallen", counts[5], 1);
+    check("behind the counts of doubles", counts[6], 9);
+    check("doubles refused", megharutti_trim_doubles(doubles, 3, 7, 0, 0, counts), 1);
+    check("doubles risen after a refusal", counts[4], 2);
+    check("doubles fallen after a refusal", counts[5], 1);
 
-    check("groomed at an even place", megharutti_trim_single(pi, 2, 7, mark, 0), 0x40490000);
-    check("groomed at an odd place", megharutti_trim_single(pi, 2, 7, mark, 0xFFFFFFFFFFFFFFFF), 0x4049FFFF);
+    /* 2^33 is 200000000 in hexadecimal, for a rise, and 2^34 is 400000000, for a fall */
+    check("groomed at an even place", megharutti_trim_single(pi, 2, 7, mark, 0), 0x440490000);
+    check("groomed at an odd place", megharutti_trim_single(pi, 2, 7, mark, 0xFFFFFFFFFFFFFFFF), 0x24049FFFF);
+    check("-pi shaved, a rise", megharutti_trim_single(0xC0490FDB, 0, 7, mark, 0), 0x2C0490000);
+    check("-pi set, a fall", megharutti_trim_single(0xC0490FDB, 1, 7, mark, 0), 0x4C049FFFF);
+    check("-0.5 to -0, a rise", megharutti_trim_single(0xBF000000, 5, 0, mark, 0), 0x280000000);
+    check("0.5 to +0, a fall", megharutti_trim_single(0x3F000000, 5, 0, mark, 0), 0x400000000);
+    check("clipped, a fall", megharutti_trim_single(0x7F7FFFFF, 4, 7, mark, 0), 0x47F7F0000);
+    check("clipped with the other sign, a rise", megharutti_trim_single(0xFF7FFFFF, 4, 7, mark, 0), 0x2FF7F0000);
+    check("spared, neither", megharutti_trim_single(0x7CF00001, 4, 7, mark, 0), 0x07CF00001);
+    check("missing, neither", megharutti_trim_single(pi, 4, 7, pi, 0), 0x040490FDB);
+    check("on the grid, neither", megharutti_trim_single(0xC0490000, 4, 7, mark, 0), 0x0C0490000);
+    check("-0, neither", megharutti_trim_single(0x80000000, 1, 7, mark, 0), 0x080000000);
+    check("a NaN, neither", megharutti_trim_single(0xFFFFFFFF, 0, 7, mark, 0), 0x0FFFFFFFF);
     check("a single refused", megharutti_trim_single(pi, 7, 0, mark, 0), 0x100000001);
+    check("a negative single refused", megharutti_trim_single(0xC0490FDB, 0, 24, mark, 0), 0x100000002);
 
     /* two layers: 1.0, missing, 2.0; and one value, a zero that is -0 */
     const uint32_t raw[6] = {0x3F800000, mark, 0x40000000, 0x80000000, 0x00000000, mark};

@@ -103,7 +103,7 @@ class Library:
 
     def trim(self, width, readings, jobs, mark):
         item, name = (ctypes.c_uint32, "singles") if width is how_far.SINGLE else (ctypes.c_uint64, "doubles")
-        call, counts = getattr(self.calls, f"megharutti_trim_{name}"), (ctypes.c_uint64 * 4)()
+        call, counts = getattr(self.calls, f"megharutti_trim_{name}"), (ctypes.c_uint64 * 6)()
         array = (item * len(readings))(*readings)
         for method, setting in jobs:
             call.argtypes = [ctypes.c_void_p, ctypes.c_size_t, ctypes.c_uint32, ctypes.c_int32, item, ctypes.c_void_p]

@@ -90,8 +90,9 @@ const LONG: usize = 70_001; // more readings than the longest layer has
 enum Kind { Roundings, Shaves, Both }
 use Kind::*;
 
-/// A list that was run: its accepted calls, what the array held before and after it, and how many places clipped and spared.
-struct List { mark: u64, calls: Vec<Call>, began: Vec<u64>, left: Vec<u64>, clipped: u64, spared: u64 }
+/// A list that was run: its accepted calls, what the array held before and after it, and how many places clipped, were spared, rose and
+/// fell.
+struct List { mark: u64, calls: Vec<Call>, began: Vec<u64>, left: Vec<u64>, clipped: u64, spared: u64, risen: u64, fallen: u64 }
 impl List {
     fn kind(&self) -> Kind {
         let roundings = self.calls.iter().filter(|call| call.0 > 3).count();
@@ -204,21 +205,21 @@ fn mark(t: &mut Tally, w: &Width, about: &About, calls: &[Call]) -> u64 {
 
 /// What the model says that an accepted call leaves, and its counts.
 fn modelled(w: &Width, now: &[u64], mark: u64, (method, setting): Call) -> (Vec<u64>, Vec<u64>) {
-    let mut counts = vec![0; 4];
+    let mut counts = vec![0; 6];
     let place = |(i, &old): (usize, &u64)| {
-        let (new, counted) = left(old, w.form.trim(method, setting, old, i % 2 == 1), mark);
-        (0..4).for_each(|c| counts[c] += counted[c] as u64);
+        let (new, counted) = left(old, w.form.own(method, setting, old, i % 2 == 1), mark);
+        (0..6).for_each(|c| counts[c] += counted[c] as u64);
         new
     };
     (now.iter().enumerate().map(place).collect(), counts)
 }
 /// One call on the array as the last one left it, compared with the model. Answers what the library left, and its counts if it accepted.
-fn trim<P: Pattern>(t: &mut Tally, w: &Width, now: &[u64], mark: u64, call: Call) -> (Vec<u64>, Option<[u64; 4]>) {
+fn trim<P: Pattern>(t: &mut Tally, w: &Width, now: &[u64], mark: u64, call: Call) -> (Vec<u64>, Option<[u64; 6]>) {
     let refusal = w.form.refusal(call.0, call.1);
     let class = (w.trims, refusal);
     t.compared.entry(class).or_default()[0] += 1;
     let narrow = |xs: &[u64]| -> Vec<P> { xs.iter().map(|&x| P::of(x)).collect() };
-    let untold = t.junk(4, |x| x);
+    let untold = t.junk(6, |x| x);
     let mut lent = Lent::new(t, &narrow(now), P::GUARD);
     let mut counts = Lent::new(t, &untold, 0x5A5A_1234_5A5A_4321);
     let answer = unsafe { P::TRIM(lent.lend(), now.len(), call.0, call.1, P::of(mark), counts.lend()) };
@@ -227,7 +228,8 @@ fn trim<P: Pattern>(t: &mut Tally, w: &Width, now: &[u64], mark: u64, call: Call
     t.same(class, "answer", &[answer], &[refusal], told);
     lent.check(t, class, "reading", &narrow(&want.0), told);
     counts.check(t, class, "count", &want.1, told);
-    let counted = counts.left().try_into().expect("four counts");
+    let counted: [u64; 6] = counts.left().try_into().expect("six counts");
+    if answer == 0 { t.same(class, "risen and fallen, by changed", &[counted[4].wrapping_add(counted[5])], &counted[..1], told); }
     (lent.left().iter().map(|&x| x.into()).collect(), (answer == 0).then_some(counted))
 }
 /// Makes a list and runs it.
@@ -237,14 +239,16 @@ fn list<P: Pattern>(t: &mut Tally, w: &Width) -> List {
     let mark = mark(t, w, &about, &calls);
     let n = if t.below(500) == 0 { LONG } else { t.pick(&[0, 1, 2, 5, 17, 64, 100, 200, 200]) };
     let began: Vec<u64> = (0..n).map(|_| reading(t, w, &about, mark)).collect();
-    let mut list = List { mark, calls: vec![], left: began.clone(), began, clipped: 0, spared: 0 };
+    let mut list = List { mark, calls: vec![], left: began.clone(), began, clipped: 0, spared: 0, risen: 0, fallen: 0 };
     for &call in &calls {
         let (now, counts) = trim::<P>(t, w, &list.left, mark, call);
         list.left = now;
-        let Some([_, spared, clipped, _]) = counts else { continue };
+        let Some([_, spared, clipped, _, risen, fallen]) = counts else { continue };
         list.calls.push(call);
         list.spared += spared;
         list.clipped += clipped;
+        list.risen += risen;
+        list.fallen += fallen;
     }
     w.met(t, "lists with refused calls beside accepted ones", (!list.calls.is_empty() && list.calls.len() < calls.len()) as u64);
     list
@@ -319,6 +323,8 @@ fn meet_list(t: &mut Tally, w: &Width, list: &List, half: u64) {
     w.met(t, if list.began.len() == LONG { "readings in long ones" } else { "readings in them" }, list.began.len() as u64);
     w.met(t, "places clipped in them", list.clipped);
     w.met(t, "places spared in them", list.spared);
+    w.met(t, "places risen in them", list.risen);
+    w.met(t, "places fallen in them", list.fallen);
     w.met(t, "lists of roundings", roundings as u64);
     w.met(t, "lists of rounds and absolutes", (roundings && (1..list.calls.len()).contains(&absolute)) as u64);
     w.met(t, "lists of shaves, sets, grooms, halfshaves", !roundings as u64);
@@ -362,13 +368,13 @@ pub fn classes(w: &Width) -> [(&'static str, u32); 4] { [(w.trims, 0), (w.trims,
 /// What must have been met, and how often at least.
 pub fn wanted(w: &Width) -> Vec<(String, u64)> {
     let once = [
-        "readings in long ones", "places clipped in them", "places spared in them", "lists of roundings",
-        "lists of rounds and absolutes", "lists of shaves, sets, grooms, halfshaves", "lists of more than one accepted call",
-        "lists of six accepted calls", "half a unit or more off, roundings", "half a unit or more off, shaves ..",
-        "lists with refused calls beside accepted ones", "lists with no accepted call", "lists of both kinds",
-        "a unit or more off, both kinds", "a unit or more off, a set and then a round", "missing readings", "zeros that are present",
-        "subnormals that are present", "readings in the last binade", "infinities that are present", "NaNs that are present",
-        "neighbours of the mark",
+        "readings in long ones", "places clipped in them", "places spared in them", "places risen in them", "places fallen in them",
+        "lists of roundings", "lists of rounds and absolutes", "lists of shaves, sets, grooms, halfshaves",
+        "lists of more than one accepted call", "lists of six accepted calls", "half a unit or more off, roundings",
+        "half a unit or more off, shaves ..", "lists with refused calls beside accepted ones", "lists with no accepted call",
+        "lists of both kinds", "a unit or more off, both kinds", "a unit or more off, a set and then a round", "missing readings",
+        "zeros that are present", "subnormals that are present", "readings in the last binade", "infinities that are present",
+        "NaNs that are present", "neighbours of the mark",
     ];
     let named = |(what, least): (&str, u64)| (format!("{}: {what}", w.name), least);
     let counted = [("lists of one kind", w.least[0]), ("readings in them", w.least[1])];

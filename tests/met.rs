@@ -1,11 +1,15 @@
 //! What the trims' test compared and met, so that an empty class shows.
-use crate::model::Form;
+use crate::model::{ways, Form, Kinds, Own};
 use crate::wrong::{named, row, CALLS, DOUBLES, LOADER, SINGLES};
 use crate::Job;
 
 const METHODS: [&str; 7] = ["method 0", "method 1", "method 2", "method 3", "method 4", "method 5", "method 6"];
 /// What may happen to a reading, by the model. The last is a reading that is spared from a clipped result.
 const WAYS: [&str; 8] = ["changed", "spared", "clipped", "missing", "tie down", "tie up", "tie clipped", "clip spared"];
+/// How a reading moves, by the model: with a sign of 0 or 1, to a zero, and clipped.
+const MOVES: [&str; 8] = ["rose, 0", "rose, 1", "fell, 0", "fell, 1", "rose to -0", "fell to +0", "clip rose", "clip fell"];
+/// What stays: spared and missing readings that would have moved, those on the grid or without a tail, and those that are no number.
+const STAYS: [&str; 8] = ["spared up", "spared down", "missing up", "missing down", "stayed, 0", "stayed, 1", "infinity", "NaN"];
 /// The kinds of patterns.
 const KINDS: [&str; 8] = ["+0", "-0", "subnormal", "normal", "largest", "infinity", "quiet NaN", "other NaN"];
 /// What is counted by the kind of the mark. The last are zeros of the other sign, and other NaNs.
@@ -37,27 +41,37 @@ pub fn ten(form: &Form, m: u64) -> bool { TENS.contains(&if form.f == 23 { f32::
 type Counts = [[[u64; 8]; 8]; 3]; // by call, then by method or by what is counted of marks, then by column
 pub struct Met {
     calls: [[[[u64; 3]; 3]; 8]; 3], // by call, method and answer: calls, readings and comparisons
-    ways: Counts, readings: Counts, marks: Counts,
+    ways: Counts, moves: Counts, stays: Counts, readings: Counts, marks: Counts,
     tens: [u64; 3], // by call: readings for digits that are a power of ten
-    pub machine: u64, pub decades: u64,
+    pub machine: u64, pub moved: u64, pub decades: u64,
 }
 impl Met {
     pub fn new() -> Met {
         let none = [[[0; 8]; 8]; 3];
-        Met { calls: [[[[0; 3]; 3]; 8]; 3], ways: none, readings: none, marks: none, tens: [0; 3], machine: 0, decades: 0 }
+        let (calls, tens) = ([[[[0; 3]; 3]; 8]; 3], [0; 3]);
+        Met { calls, ways: none, moves: none, stays: none, readings: none, marks: none, tens, machine: 0, moved: 0, decades: 0 }
     }
     pub fn call(&mut self, call: usize, form: &Form, job: Job, answer: u32, counts: [u64; 3]) {
         (0..3).for_each(|i| self.calls[call][row(job.method)][answer as usize][i] += counts[i]);
         if answer == 0 { self.marks[call][0][kind(form, job.mark)] += counts[0]; }
     }
     /// A reading of an accepted call, by the method's own result and the kinds that it counts as.
-    pub fn reading(&mut self, call: usize, form: &Form, job: Job, old: u64, own: (u64, bool), kinds: [bool; 4], times: u64) {
-        let ways = &mut self.ways[call][row(job.method)];
-        let [_, spared, _, missing] = kinds;
-        (0..4).for_each(|k| ways[k] += times * kinds[k] as u64);
+    pub fn reading(&mut self, call: usize, form: &Form, job: Job, old: u64, own: Own, kinds: Kinds, times: u64) {
+        let counts = &mut self.ways[call][row(job.method)];
+        let [_, spared, clipped, missing, risen, fallen] = kinds;
+        (0..4).for_each(|k| counts[k] += times * kinds[k] as u64);
         let (m, new, like) = (old % form.sign, own.0 % form.sign, kind(form, old));
-        if !missing && tie(form, job, m) { ways[if own.1 { 6 } else { 4 + (new > m) as usize }] += times; }
-        ways[7] += times * (spared && own.1) as u64;
+        if !missing && tie(form, job, m) { counts[if own.1 { 6 } else { 4 + (new > m) as usize }] += times; }
+        counts[7] += times * (spared && own.1) as u64;
+        let (minus, zero, finite, [up, down]) = (old >= form.sign, new == 0, m < form.infinity, ways(own.2));
+        let stayed = !spared && !missing && !risen && !fallen;
+        let moves = [risen && !minus, risen && minus, fallen && !minus, fallen && minus, risen && minus && zero, fallen && !minus && zero,
+            clipped && risen, clipped && fallen];
+        let stays = [spared && up, spared && down, missing && up, missing && down, stayed && finite && !minus, stayed && finite && minus,
+            stayed && m == form.infinity, stayed && m > form.infinity];
+        for (counts, is) in [(&mut self.moves, moves), (&mut self.stays, stays)] {
+            (0..8).for_each(|k| counts[call][row(job.method)][k] += times * is[k] as u64);
+        }
         self.tens[call] += times * (job.method == 6 && !missing && ten(form, m)) as u64;
         if !missing { self.readings[call][row(job.method)][like] += times; }
         let of = kind(form, job.mark);
@@ -72,6 +86,16 @@ impl Met {
         let mut few = self.report_calls();
         println!("\nReadings of accepted calls, by what happens to them. Only 4 and 5 round, so only they can clip or have ties.");
         few |= table(&self.ways, &WAYS, &METHODS, |method, way| matches!(way, 0 | 1 | 3) || matches!(method, 4 | 5));
+        println!("\nReadings of accepted calls that move, by their sign. Shave goes towards zero alone, and set away from it.");
+        println!("Set, halfshave and digits make no zero of what isn't one. What clips goes towards zero.");
+        few |= table(&self.moves, &MOVES, &METHODS, |method, way| match way {
+            0 | 3 => method != 0,
+            1 | 2 => method != 1,
+            4 | 5 => matches!(method, 0 | 2 | 4 | 5),
+            _ => matches!(method, 4 | 5),
+        });
+        println!("\nReadings of accepted calls that stay, spared and missing ones by how they would have moved. Each can be met.");
+        few |= table(&self.stays, &STAYS, &METHODS, |_, _| true);
         println!("\nReadings of accepted calls that aren't missing, by kind. Each can be met.");
         few |= table(&self.readings, &KINDS, &METHODS, |_, _| true);
         println!("\nAccepted calls and their readings, by the mark's kind. A reading becomes neither infinite nor a NaN, so such marks");
@@ -105,6 +129,7 @@ impl Met {
             ("powers of ten in digits, trim_doubles", self.tens[DOUBLES], 1),
             ("powers of ten in digits, trim_single", self.tens[LOADER], 1),
             ("model's results beside the machine's", self.machine, 1),
+            ("model's moves beside the machine's", self.moved, 10_000_000),
             ("model's decades beside printed ones", self.decades, 1),
         ] {
             println!("{what:<38} {times:>11}{}", if times < least { " TOO FEW" } else { "" });
@@ -113,16 +138,16 @@ impl Met {
         few
     }
 }
-/// Prints a table of each call's rows. Answers whether a cell that can be met is empty.
+/// Prints a table of each call's rows. Answers whether a cell that can be met is empty, or one that can't be is not.
 fn table(counts: &Counts, columns: &[&str; 8], rows: &[&str], can: impl Fn(usize, usize) -> bool) -> bool {
     let mut empty = false;
     let head: String = columns.iter().map(|column| format!(" {column:>11}")).collect();
     println!("{:<25}{head}", "call");
     for (call, name) in CALLS.iter().enumerate() {
         for (r, row) in rows.iter().enumerate() {
-            let none = (0..8).any(|c| can(r, c) && counts[call][r][c] == 0);
-            let cell = |c: usize| if can(r, c) { format!(" {:>11}", counts[call][r][c]) } else { format!(" {:>11}", "-") };
-            println!("{name:<13} {row:>11}{}{}", (0..8).map(cell).collect::<String>(), if none { " EMPTY" } else { "" });
+            let none = (0..8).any(|c| can(r, c) == (counts[call][r][c] == 0));
+            let cell = |c: usize| match counts[call][r][c] { 0 if !can(r, c) => format!(" {:>11}", "-"), n => format!(" {n:>11}") };
+            println!("{name:<13} {row:>11}{}{}", (0..8).map(cell).collect::<String>(), if none { " EMPTY, or not to be met" } else { "" });
             empty |= none;
         }
     }

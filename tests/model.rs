@@ -1,4 +1,5 @@
-//! Document 01's trims in exact whole numbers, and readings at which they change. Each test uses its own part of them.
+//! Document 01's trims in exact whole numbers, with document 02's rises and falls, and readings at which they change. Each test uses its
+//! own part of them.
 #![allow(dead_code)]
 use crate::nat::{goes_up, Nat};
 use std::cmp::Ordering;
@@ -49,6 +50,25 @@ impl Form {
         let m = ((e as u64) << self.f) + size.shr(e.max(1) - 1).low() % (1 << self.f);
         assert!(m < self.infinity && self.size(m) == *size, "the model made a size that isn't a reading's");
         m
+    }
+    /// How the exact signed value of one finite pattern stands to another's: Greater where it rises from old to new, Less where it falls.
+    /// What stays as it was moves nowhere, a number or not.
+    pub fn moved(&self, old: u64, new: u64) -> Ordering {
+        if old == new { return Ordering::Equal; }
+        // A value is its part above zero less its part below. What is taken off on one side is added on the other: nothing is negative.
+        let part = |x: u64, below: bool| if (x >= self.sign) == below { self.size(x % self.sign) } else { Nat::of(0) };
+        part(new, false).add(&part(old, true)).cmp(&part(old, false).add(&part(new, true)))
+    }
+    /// What the machine's floats say of the same, of finite patterns.
+    pub fn machine_moved(&self, old: u64, new: u64) -> Option<Ordering> {
+        if old % self.sign >= self.infinity || new % self.sign >= self.infinity { return None; }
+        let (single, double) = (|x: u64| f32::from_bits(x as u32), f64::from_bits);
+        if self.f == 23 { single(new).partial_cmp(&single(old)) } else { double(new).partial_cmp(&double(old)) }
+    }
+    /// The method's own result at a reading that isn't the mark.
+    pub fn own(&self, method: u32, setting: i32, reading: u64, odd: bool) -> Own {
+        let (new, clipped) = self.trim(method, setting, reading, odd);
+        (new, clipped, self.moved(reading, new))
     }
     /// What the method makes of a reading that isn't the mark, before sparing, and whether it was clipped.
     pub fn trim(&self, method: u32, setting: i32, reading: u64, odd: bool) -> (u64, bool) {
@@ -129,13 +149,22 @@ impl Form {
     }
 }
 
-/// What a place of an array holds after an accepted call, by the method's own result there, and whether it counts as changed, spared,
-/// clipped and missing.
-pub fn left(old: u64, (new, clipped): (u64, bool), mark: u64) -> (u64, [bool; 4]) {
+/// A method's own result, before sparing: the pattern, whether it was clipped, and how its exact signed value stands to the reading's.
+pub type Own = (u64, bool, Ordering);
+/// Whether a move is a rise, and whether it is a fall.
+pub fn ways(moved: Ordering) -> [bool; 2] { [moved.is_gt(), moved.is_lt()] }
+/// Whether a place counts as changed, spared, clipped, missing, risen and fallen.
+pub type Kinds = [bool; 6];
+
+/// What a place of an array holds after an accepted call, by the method's own result there, and what it counts as.
+pub fn left(old: u64, (new, clipped, moved): Own, mark: u64) -> (u64, Kinds) {
     let (missing, spared) = (old == mark, old != mark && new == mark);
-    let new = if missing || spared { old } else { new };
-    (new, [new != old, spared, clipped && !missing && !spared, missing])
+    if missing || spared { return (old, [false, spared, false, missing, false, false]); }
+    let [risen, fallen] = ways(moved);
+    (new, [new != old, false, clipped, false, risen, fallen])
 }
+/// The loader's number for a pattern that is left: it gains 2^33 for a rise and 2^34 for a fall.
+pub fn number(new: u64, risen: bool, fallen: bool) -> u64 { new + ((risen as u64) << 33) + ((fallen as u64) << 34) }
 
 /// Ends, subnormals, infinities, NaNs and a few everyday readings, with both signs.
 pub fn ends(form: &Form) -> Vec<u64> {

@@ -883,7 +883,7 @@ fn list(t: &mut Tally, model: &Model, length: usize, count: usize) {
         let class = ("trims of a list", refusal);
         t.compared.entry(class).or_default()[0] += 1;
         let mut lent = Lent::new(t, &now, 0x3FAA5A5B);
-        let untold = t.junk(4, |x| x);
+        let untold = t.junk(6, |x| x);
         let mut counts = Lent::new(t, &untold, 0x5A5A_1234_5A5A_4321);
         let answer = unsafe { megharutti_trim_singles(lent.lend(), n, method, setting, mark, counts.lend()) };
         let told = &|_| format!("method {method} setting {setting} mark {mark:08X} readings {}", hex(&now));
@@ -891,6 +891,7 @@ fn list(t: &mut Tally, model: &Model, length: usize, count: usize) {
         let want = if refusal == 0 { (lent.left().to_vec(), counts.left().to_vec()) } else { (now.clone(), untold) };
         lent.check(t, class, "reading", &want.0, told);
         counts.check(t, class, "count", &want.1, told);
+        if refusal == 0 { t.same(class, "risen and fallen, by changed", &[want.1[4].wrapping_add(want.1[5])], &want.1[..1], told); }
         now = want.0;
         if refusal == 0 { trims.push((method, setting)); }
     }

@@ -1,7 +1,7 @@
 /* The caller's float settings. A program that gcc links with -ffast-math begins with two settings of the processor that take subnormal numbers for zero, in what an
  * operation gets and in what it gives. Each call below is made with these settings and with the usual ones, and has to answer and leave the same, bit for bit. Where
- * whole numbers do all of the work, the same is asked of the other directions of rounding, with every float exception trapped. Cases of document 01 are compared with what
- * it says.
+ * whole numbers do all of the work, the same is asked of the other directions of rounding, with every float exception trapped. What has risen and fallen is counted here too,
+ * by whole numbers, since a comparison of floats would take one subnormal number for another. Cases of documents 01 and 02 are compared with what they say.
  *
  * Linked without -ffast-math this program stops at once, since it would show nothing. It computes no float itself: readings and results are patterns. */
 #include "../include/megharutti.h"
@@ -21,6 +21,7 @@ static const uint64_t wide_mark = 0x7CF0000000000000, nan_mark = 0x7FF8000000000
 
 static unsigned begun; /* the settings that this program began with */
 static uint64_t calls, differing, wrong;
+static uint64_t any_risen, any_fallen; /* so many readings moved */
 
 static uint64_t draw(void) {
     static uint64_t seed = 0x9E3779B97F4A7C15;
@@ -42,33 +43,87 @@ static void check(const char *what, uint64_t got, uint64_t expected) {
 
 /* ---- trimming: an array, and the loader's call on some of its places */
 
+enum { COUNTS = 6, GUARDS = 2, CHANGED = 0, RISEN = 4, FALLEN = 5 };
+static const uint64_t untold = 0x5A5A12345A5A4321; /* what the counts and the words behind them hold before a call */
+
+static void untell(uint64_t counts[2][COUNTS + GUARDS]) {
+    for (int i = 0; i < 2 * (COUNTS + GUARDS); i++)
+        counts[i / (COUNTS + GUARDS)][i % (COUNTS + GUARDS)] = untold;
+}
+
+/* 1 for a rise of the exact signed value, -1 for a fall, 0 where the pattern stays. The sign doesn't change. The size is `whole` times 2^shift least spacings; where the shifts
+ * differ, the larger one has a whole with its highest bit, and is the larger size. */
+static int moved(uint64_t old, uint64_t new, int fraction_bits, int sign_bit) {
+    const uint64_t patterns[2] = {old, new};
+    uint64_t whole[2], shift[2], hidden = UINT64_C(1) << fraction_bits;
+    if (old == new)
+        return 0;
+    for (int k = 0; k < 2; k++) {
+        uint64_t m = patterns[k] & ((UINT64_C(1) << sign_bit) - 1), field = m >> fraction_bits;
+        whole[k] = m % hidden + (field ? hidden : 0);
+        shift[k] = field ? field - 1 : 0;
+    }
+    int grows = shift[0] != shift[1] ? shift[1] > shift[0] : whole[1] > whole[0];
+    return grows == !(old >> sign_bit & 1) ? 1 : -1;
+}
+
+/* Whether the counts after a call are those of what it left: as they were where it refused. */
+static int counted(const uint64_t *counts, uint32_t answer, uint64_t risen, uint64_t fallen) {
+    for (int i = answer ? 0 : COUNTS; i < COUNTS + GUARDS; i++)
+        if (counts[i] != untold)
+            return 0;
+    return answer || (counts[CHANGED] == risen + fallen && counts[RISEN] == risen && counts[FALLEN] == fallen);
+}
+
+/* The loader's number for a pattern that is left. */
+static uint64_t number(uint32_t old, uint32_t new) {
+    int by = moved(old, new, 23, 31);
+    return new + (by > 0 ? UINT64_C(1) << 33 : 0) + (by < 0 ? UINT64_C(1) << 34 : 0);
+}
+
 static void trim_singles(const char *what, const uint32_t *in, int method, int setting, uint32_t missing, unsigned settings) {
     static uint32_t left[2][N];
-    uint64_t counts[2][4] = {{0}};
+    uint64_t counts[2][COUNTS + GUARDS], risen = 0, fallen = 0;
     uint32_t answer[2];
     int is = 1;
+    untell(counts);
     for (int k = 0; k < 2; k++) {
         memcpy(left[k], in, sizeof left[k]);
         _mm_setcsr(k ? settings : USUAL);
         answer[k] = megharutti_trim_singles(left[k], N, method, setting, missing, counts[k]);
     }
     for (uint64_t i = 0; i < N; i += 97)
-        is &= megharutti_trim_single(in[i], method, setting, missing, i) == (answer[0] ? (UINT64_C(1) << 32) + answer[0] : left[0][i]);
+        is &= megharutti_trim_single(in[i], method, setting, missing, i) == (answer[0] ? (UINT64_C(1) << 32) + answer[0] : number(in[i], left[0][i]));
     _mm_setcsr(USUAL);
+    for (int i = 0; i < N; i++) {
+        risen += moved(in[i], left[0][i], 23, 31) > 0;
+        fallen += moved(in[i], left[0][i], 23, 31) < 0;
+    }
+    is &= counted(counts[1], answer[1], risen, fallen);
+    any_risen += risen;
+    any_fallen += fallen;
     same(what, "method", method, "setting", setting, settings, is && answer[0] == answer[1] && !memcmp(left[0], left[1], sizeof left[0]) && !memcmp(counts[0], counts[1], sizeof counts[0]));
 }
 
 static void trim_doubles(const char *what, const uint64_t *in, int method, int setting, uint64_t missing, unsigned settings) {
     static uint64_t left[2][N];
-    uint64_t counts[2][4] = {{0}};
+    uint64_t counts[2][COUNTS + GUARDS], risen = 0, fallen = 0;
     uint32_t answer[2];
+    untell(counts);
     for (int k = 0; k < 2; k++) {
         memcpy(left[k], in, sizeof left[k]);
         _mm_setcsr(k ? settings : USUAL);
         answer[k] = megharutti_trim_doubles(left[k], N, method, setting, missing, counts[k]);
     }
     _mm_setcsr(USUAL);
-    same(what, "method", method, "setting", setting, settings, answer[0] == answer[1] && !memcmp(left[0], left[1], sizeof left[0]) && !memcmp(counts[0], counts[1], sizeof counts[0]));
+    for (int i = 0; i < N; i++) {
+        risen += moved(in[i], left[0][i], 52, 63) > 0;
+        fallen += moved(in[i], left[0][i], 52, 63) < 0;
+    }
+    int is = counted(counts[1], answer[1], risen, fallen);
+    any_risen += risen;
+    any_fallen += fallen;
+    same(what, "method", method, "setting", setting, settings, is && answer[0] == answer[1] && !memcmp(left[0], left[1], sizeof left[0]) && !memcmp(counts[0], counts[1], sizeof counts[0]));
 }
 
 /* ---- layers: readings packed in layers of `length`, and codes unpacked with the references and exponents of some layers */
@@ -229,24 +284,42 @@ static void every_direction(void) {
         }
 }
 
-/* ---- what document 01 says, with subnormal numbers taken for zero */
+/* ---- what documents 01 and 02 say, with subnormal numbers taken for zero */
 
 static void cases(void) {
-    uint64_t counts[4];
+    uint64_t counts[7] = {9, 9, 9, 9, 9, 9, 9}; /* the last is none of them */
     uint32_t singles[4] = {0x00000001, 0x80400000, 0x007FFFFF, 0x00000000};
-    uint64_t doubles[1] = {0x0008000000000000};
+    uint64_t doubles[3] = {0x0008000000000000, 0x8000000000000001, 0x800FFFFFFFFFFFFF};
     _mm_setcsr(begun);
     check("absolute -149", megharutti_trim_singles(singles, 4, ABSOLUTE, -149, mark, counts), 0);
     check("absolute -149 of 00000001", singles[0], 0x00000001);
     check("absolute -149 of 80400000", singles[1], 0x80400000);
     check("absolute -149 of 007FFFFF", singles[2], 0x007FFFFF);
-    check("absolute -149 changes nothing", counts[0], 0);
+    check("absolute -149 changes nothing", counts[0] + counts[4] + counts[5], 0);
     check("absolute -126", megharutti_trim_singles(singles, 4, ABSOLUTE, -126, mark, counts), 0);
     check("absolute -126 of 00000001, below half a unit", singles[0], 0x00000000);
     check("absolute -126 of 80400000, a tie", singles[1], 0x80000000);
     check("absolute -126 of 007FFFFF, above half a unit", singles[2], 0x00800000);
-    check("absolute -1074", megharutti_trim_doubles(doubles, 1, ABSOLUTE, -1074, wide_mark, counts), 0);
+    check("absolute -126 changes three", counts[0], 3);
+    check("absolute -126 raises 80400000 and 007FFFFF", counts[4], 2);
+    check("absolute -126 lowers 00000001", counts[5], 1);
+    check("behind the counts", counts[6], 9);
+    check("absolute -1074", megharutti_trim_doubles(doubles, 3, ABSOLUTE, -1074, wide_mark, counts), 0);
     check("absolute -1074 of 0008000000000000", doubles[0], 0x0008000000000000);
+    check("absolute -1074 changes nothing", counts[0] + counts[4] + counts[5], 0);
+    check("shave 0", megharutti_trim_doubles(doubles, 3, MEGHARUTTI_SHAVE, 0, wide_mark, counts), 0);
+    check("shave 0 of 800FFFFFFFFFFFFF", doubles[2], 0x8000000000000000);
+    check("shave 0 raises two", counts[4], 2);
+    check("shave 0 lowers one", counts[5], 1);
+    check("behind the counts of doubles", counts[6], 9);
+    /* the loader's number, with 2^33 for a rise and 2^34 for a fall */
+    check("absolute -126 of 00000001, a fall", megharutti_trim_single(0x00000001, ABSOLUTE, -126, mark, 0), 0x400000000);
+    check("absolute -126 of 80000001, a rise", megharutti_trim_single(0x80000001, ABSOLUTE, -126, mark, 0), 0x280000000);
+    check("absolute -148 of 00000003, a tie, a rise", megharutti_trim_single(0x00000003, ABSOLUTE, -148, mark, 0), 0x200000004);
+    check("absolute -149 of 80000001 stays", megharutti_trim_single(0x80000001, ABSOLUTE, -149, mark, 0), 0x080000001);
+    check("shave 22 of 80000003, a rise", megharutti_trim_single(0x80000003, MEGHARUTTI_SHAVE, 22, mark, 0), 0x280000002);
+    check("set 20 of 00000001, a rise", megharutti_trim_single(0x00000001, MEGHARUTTI_SET, 20, mark, 0), 0x200000007);
+    check("shave 24 of 80000003, refused", megharutti_trim_single(0x80000003, MEGHARUTTI_SHAVE, 24, mark, 0), 0x100000002);
 
     const uint32_t p12[2][2] = {{0x00000000, 0x0000FFFE}, {0x00000000, 0x0000FFFF}};
     const int32_t exponents[2] = {-149, -148};
@@ -291,6 +364,6 @@ int main(void) {
     every_packing();
     every_unpacking();
     every_direction();
-    printf("settings: %" PRIu64 " calls, %" PRIu64 " differ; %" PRIu64 " cases wrong\n", calls, differing, wrong);
-    return differing || wrong;
+    printf("settings: %" PRIu64 " calls, %" PRIu64 " differ; %" PRIu64 " cases wrong; %" PRIu64 " readings rose, %" PRIu64 " fell\n", calls, differing, wrong, any_risen, any_fallen);
+    return differing || wrong || !any_risen || !any_fallen;
 }

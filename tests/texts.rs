@@ -1,4 +1,4 @@
-//! Compares what the program trimlist prints with a model of document 01, text by text and byte by byte.
+//! Compares what the program trimlist prints with a model of document 01, with document 02's columns, text by text and byte by byte.
 //!
 //!     texts PROGRAM [ARGUMENT ..]    runs the program once for each text
 //!     texts --stand-in               is such a program itself, by the model
@@ -7,7 +7,7 @@
 //! wrong model must differ from what the program printed.
 mod model;
 mod nat;
-use model::{ends, left, tens, Form, Slip};
+use model::{ends, left, tens, ways, Form, Kinds, Own, Slip};
 use std::collections::BTreeMap;
 use std::fs::File;
 use std::io::{Read, Write};
@@ -18,13 +18,18 @@ use std::thread;
 use std::time::{Duration, Instant};
 
 const HEAD: &str = "method,setting,mark";
-const COUNTS: &str = "changed,spared,clipped,missing";
+const COUNTS: &str = "changed,spared,clipped,missing,risen,fallen";
+const SIX: [usize; 6] = [0, 1, 2, 3, 4, 5]; // the counts
 const WORDS: [&str; 7] = ["shave", "set", "groom", "halfshave", "round", "absolute", "digits"];
-/// The input and the output that document 01 prints.
+/// The input and the output that document 01 prints, with the columns that document 02 adds.
 const LISTING: &str = "method,setting,mark\nround,7,7CF00000\nrain,ozone\n40490FDB,7CF00000\n7CF00001,3F800000\n";
-const LISTED: &str = "rain,ozone\n40490000,7CF00000\n7CF00001,3F800000\nchanged,spared,clipped,missing\n1,1,0,0\n0,0,0,1\n";
+const LISTED: &str = "rain,ozone\n40490000,7CF00000\n7CF00001,3F800000\nchanged,spared,clipped,missing,risen,fallen\n\
+    1,1,0,0,0,1\n0,0,0,1,0,0\n";
 /// The longest text of the form: the head, the job's line, the names' line, 512 lines of values; each with its commas and its newline.
 const LONGEST: usize = 20 + (16 + 1 + 5 + 1 + 8 + 1) + (8 * 16 + 7 + 1) + 512 * (8 * 8 + 7 + 1);
+/// The longest answer: the names' line, 512 lines of values, the counts' names, and for each series six counts of three digits: 512 places
+/// have room for 100 of each kind.
+const LONGEST_ANSWER: usize = (8 * 16 + 7 + 1) + 512 * (8 * 8 + 7 + 1) + (COUNTS.len() + 1) + 8 * (6 * 3 + 5 + 1);
 
 /// A rule of the model that can be turned.
 #[derive(Clone, Copy, PartialEq)]
@@ -36,9 +41,10 @@ enum Rule {
     Name17, Name15, NameCapital, NameDigit, NameEmpty, NamesApart, Word17, Word15,
     Digits5, Digits3, Plus, MinusAlone, LeadingZero, Octal, MinusZero,
     Range(usize, i32, i32), Exchanged, OfAll, CountsHead, Untrimmed, BySeries, RefusalNames, RefusalLine, Lower,
+    Upside, BySize, SparedMoved, MissingMoved, ClipTurned, ZeroStays(u64), MissingLast, FourColumns, FourNames, NamesTurned, Net,
 }
 use Rule::*;
-const TURNED: [(Rule, &str); 74] = [
+const TURNED: [(Rule, &str); 86] = [
     (Trim(Slip::TieUp), "a tie goes up"),
     (Trim(Slip::Overflow), "round passes the largest finite pattern"),
     (Trim(Slip::ClipToTop), "a clipped reading becomes the largest finite pattern"),
@@ -106,6 +112,18 @@ const TURNED: [(Rule, &str); 74] = [
     (Range(6, 1, 8), "digits 8 is accepted"),
     (Range(1, 0, 22), "set 23 is refused"),
     (Exchanged, "the counts of spared and clipped are exchanged"),
+    (Upside, "the counts of risen and fallen are exchanged"),
+    (BySize, "a rise is one of the size, without its sign"),
+    (SparedMoved, "a spared reading counts as risen or fallen where its result would have"),
+    (MissingMoved, "a missing reading counts as risen or fallen where it would have"),
+    (ClipTurned, "a clipped reading counts the other way"),
+    (ZeroStays(0), "a reading that becomes +0 counts as stayed"),
+    (ZeroStays(1), "a reading that becomes -0 counts as stayed"),
+    (MissingLast, "the counts of risen and fallen stand before that of missing"),
+    (FourColumns, "the counts of risen and fallen are left out"),
+    (FourNames, "the names of risen and fallen are left out"),
+    (NamesTurned, "the names of risen and fallen are exchanged"),
+    (Net, "risen and fallen are set off against each other"),
     (OfAll, "each line of counts is that of all series"),
     (CountsHead, "the line before the counts is left out"),
     (Untrimmed, "the lines are printed as they were read"),
@@ -119,7 +137,8 @@ const TURNED: [(Rule, &str); 74] = [
 fn methods(rule: Rule) -> &'static [u32] {
     match rule {
         Trim(Slip::Overflow) => &[4],
-        Trim(Slip::TieUp | Slip::ClipToTop) | SparedClipped => &[4, 5],
+        Trim(Slip::TieUp | Slip::ClipToTop) | SparedClipped | ClipTurned => &[4, 5],
+        ZeroStays(_) => &[0, 2, 4, 5],
         Trim(Slip::ZeroTail) => &[1, 2, 3],
         Trim(Slip::ZeroSign) => &[5],
         Trim(Slip::DecadeBelow | Slip::TwoSpacingsStay) => &[6],
@@ -127,6 +146,7 @@ fn methods(rule: Rule) -> &'static [u32] {
         Parity | PresentPlaces => &[2],
         Trim(Slip::Flush) | NotSpared | SparedChanged | MissingTrimmed | ZerosAlike | NansAlike => &[0, 1, 2, 3, 4, 5, 6],
         Exchanged | OfAll | Untrimmed | BySeries | Lower => &[0, 1, 2, 3, 4, 5, 6],
+        Upside | BySize | SparedMoved | MissingMoved | MissingLast | FourColumns | FourNames | NamesTurned | Net => &[0, 1, 2, 3, 4, 5, 6],
         _ => &[],
     }
 }
@@ -134,8 +154,8 @@ fn methods(rule: Rule) -> &'static [u32] {
 /// What a text of the form says.
 struct Job { word: Vec<u8>, setting: i32, mark: u64, names: Vec<Vec<u8>>, lines: Vec<Vec<u64>> }
 
-/// A trimmed series and its four counts.
-type Series = (Vec<u64>, [u64; 4]);
+/// A trimmed series and its six counts.
+type Series = (Vec<u64>, [u64; 6]);
 
 /// Document 01's program, with no rule or one rule turned.
 struct Model { form: Form, turned: Option<Rule> }
@@ -267,16 +287,23 @@ impl Model {
         (self.refusal(&job.word, job.setting), Some(job))
     }
 
-    fn left(&self, old: u64, plain: (u64, bool), mark: u64) -> (u64, [bool; 4]) {
+    fn left(&self, old: u64, plain: Own, mark: u64) -> (u64, Kinds) {
         let both = |is: fn(u64) -> bool| is(old % (1 << 31)) && is(mark % (1 << 31));
         let (mut new, mut kinds) = left(old, plain, mark);
+        let ([up, down], alike) = (ways(plain.2), [false, false, false, true, false, false]);
         match self.turned {
-            Some(NotSpared) if kinds[1] => (new, kinds) = (mark, [true, false, plain.1, false]),
+            Some(NotSpared) if kinds[1] => (new, kinds) = (mark, [true, false, plain.1, false, up, down]),
             Some(SparedChanged) => kinds[0] |= kinds[1],
             Some(SparedClipped) => kinds[2] = plain.1 && !kinds[3],
             Some(MissingTrimmed) if kinds[3] => (new, kinds[0]) = (plain.0, plain.0 != old),
-            Some(ZerosAlike) if both(|m| m == 0) => (new, kinds) = (old, [false, false, false, true]),
-            Some(NansAlike) if both(|m| m > 0x7F800000) => (new, kinds) = (old, [false, false, false, true]),
+            Some(ZerosAlike) if both(|m| m == 0) => (new, kinds) = (old, alike),
+            Some(NansAlike) if both(|m| m > 0x7F800000) => (new, kinds) = (old, alike),
+            Some(Upside) => kinds.swap(4, 5),
+            Some(BySize) if old >= 1 << 31 => kinds.swap(4, 5),
+            Some(SparedMoved) if kinds[1] => (kinds[4], kinds[5]) = (up, down),
+            Some(MissingMoved) if kinds[3] => (kinds[4], kinds[5]) = (up, down),
+            Some(ClipTurned) if kinds[2] => kinds.swap(4, 5),
+            Some(ZeroStays(sign)) if new == sign << 31 => (kinds[4], kinds[5]) = (false, false),
             _ => {}
         }
         (new, kinds)
@@ -286,12 +313,12 @@ impl Model {
         // Beyond its range a setting means nothing; a model that accepts one takes the last that does.
         let (least, most) = self.form.range(method);
         let setting = job.setting.clamp(least, most);
-        let (mut out, mut counts, mut missing) = (vec![], [0; 4], 0);
+        let (mut out, mut counts, mut missing) = (vec![], [0; 6], 0);
         for (i, line) in job.lines.iter().enumerate() {
             let place = i + self.one(Parity) * column * job.lines.len() - self.one(PresentPlaces) * missing;
-            let plain = self.form.trim(method, setting, line[column], place % 2 == 1);
+            let plain = self.form.own(method, setting, line[column], place % 2 == 1);
             let (new, kinds) = self.left(line[column], plain, job.mark);
-            (0..4).for_each(|k| counts[k] += kinds[k] as u64);
+            (0..6).for_each(|k| counts[k] += kinds[k] as u64);
             missing += kinds[3] as usize;
             out.push(if self.is(Untrimmed) { line[column] } else { new });
         }
@@ -307,12 +334,17 @@ impl Model {
         } else {
             (0..job.lines.len()).for_each(|i| out += &line(series.iter().map(|s| hex(s.0[i])).collect()));
         }
-        if !self.is(CountsHead) { out += &format!("{COUNTS}\n"); }
-        let all = series.iter().fold([0; 4], |sum, s| [0, 1, 2, 3].map(|k| sum[k] + s.1[k]));
+        let mut names: Vec<String> = COUNTS.split(',').map(String::from).collect();
+        if self.is(NamesTurned) { names.swap(4, 5); }
+        if self.is(FourNames) { names.truncate(4); }
+        if !self.is(CountsHead) { out += &line(names); }
+        let all = series.iter().fold([0; 6], |sum, s| SIX.map(|k| sum[k] + s.1[k]));
         for (_, counts) in &mut series {
             if self.is(Exchanged) { counts.swap(1, 2); }
             if self.is(OfAll) { *counts = all; }
-            out += &line(counts.iter().map(u64::to_string).collect());
+            if self.is(MissingLast) { counts[3..].rotate_left(1); }
+            if self.is(Net) { let less = counts[4].min(counts[5]); counts[4] -= less; counts[5] -= less; }
+            out += &line(counts.iter().take(if self.is(FourColumns) { 4 } else { 6 }).map(u64::to_string).collect());
         }
         out
     }
@@ -507,17 +539,18 @@ impl Maker {
             let text = self.draft(method, setting, 8, 512, 7).text();
             self.add("512 lines of 8 series", 0, text);
         }
-        // By round 7 with 01's mark these are changed, spared, clipped (and changed) and missing, and the last stays.
-        let readings = ["40490FDB", "7CF00001", "7F7FFFFF", "7CF00000", "3F800000"];
+        // By round 7 with 01's mark these fall, rise, are spared, clip and fall, clip and rise, and are missing; and the last stays.
+        let readings = ["40490FDB", "C0490FDB", "7CF00001", "7F7FFFFF", "FF7FFFFF", "7CF00000", "3F800000"];
         let counts = [0, 1, 2, 8, 9, 10, 11, 19, 20, 90, 99, 100, 101, 109, 110, 199, 200, 255, 256, 257, 499, 500, 509, 510, 511, 512];
         for n in counts {
             let lines = self.pick(&[n, 512, 512]);
-            let reading = |line: usize, series: usize| readings[if line * n / lines < (line + 1) * n / lines { series } else { 4 }];
-            let line = |line| (0..4).map(|series| reading(line, series)).collect::<Vec<_>>().join(",") + "\n";
+            let reading = |line: usize, series: usize| readings[if line * n / lines < (line + 1) * n / lines { series } else { 6 }];
+            let line = |line| (0..6).map(|series| reading(line, series)).collect::<Vec<_>>().join(",") + "\n";
             let values: String = (0..lines).map(line).collect();
-            self.add("counts of each length", 0, format!("{HEAD}\nround,7,7CF00000\na,b,c,d\n{values}"));
+            self.add("counts of each length", 0, format!("{HEAD}\nround,7,7CF00000\na,b,c,d,e,f\n{values}"));
             let (want, ..) = self.model.answer(&self.texts.last().unwrap().bytes);
-            let counts = format!("{COUNTS}\n{n},0,0,0\n0,{n},0,0\n{n},0,{n},0\n0,0,0,{n}\n");
+            let moved = format!("{n},0,0,0,0,{n}\n{n},0,0,0,{n},0\n");
+            let counts = format!("{COUNTS}\n{moved}0,{n},0,0,0,0\n{n},0,{n},0,0,{n}\n{n},0,{n},0,{n},0\n0,0,0,{n},0,0\n");
             assert!(want.ends_with(&counts), "the model's counts");
         }
     }
@@ -547,7 +580,8 @@ impl Maker {
                 self.add("an unknown word", 1, draft.text());
             }
         }
-        for name in ["a", "z", "method", "setting", "mark", "round", "changed", "refused", "abcdefghijklmnop", "zzzzzzzzzzzzzzzz"] {
+        let words = ["a", "z", "method", "setting", "mark", "round", "changed", "risen", "fallen", "refused"];
+        for name in words.into_iter().chain(["abcdefghijklmnop", "zzzzzzzzzzzzzzzz"]) {
             let mut draft = self.small();
             draft.names[0] = name.to_string();
             self.add("names", 0, draft.text());
@@ -561,6 +595,26 @@ impl Maker {
         draft.job = vec![word.to_string(), "-0000".to_string(), draft.job[2].clone()];
         draft.names = (0..8).map(|_| self.letters(16)).collect();
         draft
+    }
+    /// The longest answers: only a method that clips makes them. In each series the first readings clip and fall, the next clip and rise,
+    /// the next are spared and the last are missing, 100 or more of each.
+    fn longest_answers(&mut self) {
+        let reading = |line: usize, series: usize| match line {
+            _ if line < 100 + series => "7F7FFFFF",
+            _ if line < 210 + 2 * series => "FF7FFFFF",
+            _ if line < 330 + 3 * series => "7CF00001",
+            _ => "7CF00000",
+        };
+        let counts = |s: u64| format!("{},{},{0},{},{},{}\n", 210 + 2 * s, 120 + s, 182 - 3 * s, 110 + s, 100 + s);
+        for job in ["round,0007", "absolute,0119"] {
+            let names: Vec<String> = (0..8).map(|_| self.letters(16)).collect();
+            let line = |line| (0..8).map(|series| reading(line, series)).collect::<Vec<_>>().join(",") + "\n";
+            let values: String = (0..512).map(line).collect();
+            self.add("the longest answer", 0, format!("{HEAD}\n{job},7CF00000\n{}\n{values}", names.join(",")));
+            let (want, ..) = self.model.answer(&self.texts.last().unwrap().bytes);
+            assert!(want.ends_with(&format!("\n{COUNTS}\n{}", (0..8).map(counts).collect::<String>())), "the longest answer's counts");
+            assert_eq!((want.len(), LONGEST_ANSWER), (37236, 37236), "the longest answer");
+        }
     }
     /// The longest texts, and those that are one byte longer.
     fn long(&mut self) {
@@ -793,6 +847,7 @@ fn texts() -> Vec<Text> {
     maker.large();
     maker.jobs();
     maker.long();
+    maker.longest_answers();
     maker.ways();
     maker.listing();
     maker.fields();
@@ -900,7 +955,8 @@ fn difference(got: &[u8], want: &[u8]) -> String {
 #[derive(Default)]
 struct Met {
     kinds: Vec<(&'static str, [u64; 5])>, // texts, accepted ones, and refused with 1, 2 and 9
-    methods: [[u64; 6]; 7], // accepted texts, readings, and the four counts
+    methods: [[u64; 8]; 7], // accepted texts, readings, and the six counts
+    moves: [[u64; 10]; 7],
     others: BTreeMap<String, u64>,
     statuses: BTreeMap<(u32, String), u64>, // by the refusal's number and the exit status, of which document 01 says nothing
 }
@@ -921,6 +977,15 @@ fn pattern_kind(x: u64) -> &'static str {
 const PATTERN_KINDS: [&str; 10] = [
     "+0", "-0", "+infinity", "-infinity", "NaN without payload", "NaN with payload",
     "largest finite", "subnormal", "end of a binade", "other",
+];
+
+/// How a reading moves or would have moved, by its sign, and the methods by which it can: shave goes towards zero, set away from it; what
+/// clips goes towards zero.
+const MOVES: [(&str, &[usize]); 10] = [
+    ("risen with sign 0", &[1, 2, 3, 4, 5, 6]), ("risen with sign 1", &[0, 2, 3, 4, 5, 6]),
+    ("fallen with sign 0", &[0, 2, 3, 4, 5, 6]), ("fallen with sign 1", &[1, 2, 3, 4, 5, 6]),
+    ("risen to -0", &[0, 2, 4, 5]), ("fallen to +0", &[0, 2, 4, 5]), ("clipped and risen", &[4, 5]), ("clipped and fallen", &[4, 5]),
+    ("spared from a rise", &[0, 1, 2, 3, 4, 5, 6]), ("spared from a fall", &[0, 1, 2, 3, 4, 5, 6]),
 ];
 
 impl Met {
@@ -954,14 +1019,22 @@ impl Met {
         let row = &mut self.methods[method as usize];
         row[0] += 1;
         row[1] += (job.lines.len() * series.len()) as u64;
-        series.iter().for_each(|x| (0..4).for_each(|k| row[k + 2] += x.1[k]));
+        series.iter().for_each(|x| (0..6).for_each(|k| row[k + 2] += x.1[k]));
         for (i, line) in job.lines.iter().enumerate() {
             for &old in line.iter().filter(|&&x| x != job.mark) {
                 self.meet(format!("reading: {}", pattern_kind(old)), 1);
-                let (new, clipped) = model.form.trim(method, job.setting, old, i % 2 == 1);
-                self.meet("readings spared after clipping", (clipped && new == job.mark) as u64);
+                let own = model.form.own(method, job.setting, old, i % 2 == 1);
+                self.meet("readings spared after clipping", (own.1 && own.0 == job.mark) as u64);
+                self.moved(method as usize, old, own, job.mark);
             }
         }
+    }
+    fn moved(&mut self, method: usize, old: u64, (new, clipped, moved): Own, mark: u64) {
+        let ([up, down], spared, minus) = (ways(moved), new == mark, old >= 1 << 31);
+        let (rose, fell, zero) = (up && !spared, down && !spared, new % (1 << 31) == 0);
+        let is = [rose && !minus, rose && minus, fell && !minus, fell && minus, rose && minus && zero, fell && !minus && zero,
+            clipped && rose, clipped && fell, spared && up, spared && down];
+        (0..10).filter(|&k| is[k]).for_each(|k| self.moves[method][k] += 1);
     }
     /// Prints what was met. Answers whether a class is empty.
     fn report(&self) -> bool {
@@ -975,11 +1048,17 @@ impl Met {
         let sums = self.kinds.iter().fold([0; 5], |sum, x| [0, 1, 2, 3, 4].map(|k| sum[k] + x.1[k]));
         let bad = flag(sums.contains(&0));
         println!("{:<44} {:>6} {:>9} {:>10} {:>10} {:>10}{bad}", "all", sums[0], sums[1], sums[2], sums[3], sums[4]);
-        println!("\n{:<12} {:>8} {:>9} {:>9} {:>9} {:>9} {:>9}", "accepted", texts, "readings", "changed", "spared", "clipped", "missing");
+        let cells = |cells: Vec<String>| cells.iter().map(|cell| format!(" {cell:>9}")).collect::<String>();
+        println!("\n{:<12}{}", "accepted", cells(["texts", "readings"].into_iter().chain(COUNTS.split(',')).map(String::from).collect()));
         for (i, row) in self.methods.iter().enumerate() {
             // Rounding alone clips.
-            let bad = flag((0..6).any(|k| row[k] == 0 && (k != 4 || i == 4 || i == 5)));
-            println!("{:<12} {:>8} {:>9} {:>9} {:>9} {:>9} {:>9}{bad}", WORDS[i], row[0], row[1], row[2], row[3], row[4], row[5]);
+            let bad = flag((0..8).any(|k| row[k] == 0 && (k != 4 || i == 4 || i == 5)));
+            println!("{:<12}{}{bad}", WORDS[i], cells(row.iter().map(u64::to_string).collect()));
+        }
+        println!("\n{:<20}{}", "present readings", cells(WORDS.map(String::from).to_vec()));
+        for (k, (what, by)) in MOVES.iter().enumerate() {
+            let bad = flag((0..7).any(|i| by.contains(&i) == (self.moves[i][k] == 0)));
+            println!("{what:<20}{}{bad}", cells((0..7).map(|i| self.moves[i][k].to_string()).collect()));
         }
         let mut wanted: Vec<String> = [0, 1, 511, 512].map(|n| format!("lines: {n}")).to_vec();
         wanted.extend((1..=8).map(|n| format!("series: {n}")));
@@ -989,6 +1068,7 @@ impl Met {
         wanted.extend([
             "a setting with leading zeros", "a setting of -0", "a setting of -0000", "repeated names", "a name of 1 letter",
             "a name of 16 letters", "groom of two or more series with an odd number of lines", "readings spared after clipping",
+            "the longest answer",
         ].map(String::from));
         println!("\n{:<60} {:>8}", "met in accepted texts", "times");
         for what in wanted {
@@ -1054,6 +1134,7 @@ fn main() {
             differs(format!("{}; {}", difference(&got.out, want.as_bytes()), told()));
         }
         met.text(text, refusal);
+        met.meet("the longest answer", (want.len() == LONGEST_ANSWER) as u64);
         by.push(accepted.as_ref().and_then(|x| model.method(&x.0.word)));
         if let Some((job, series)) = accepted { met.accepted(&model, text, &job, &series); }
         *met.statuses.entry((refusal, got.status.map_or("none".to_string(), |x| x.to_string()))).or_default() += 1;

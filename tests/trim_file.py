@@ -18,10 +18,11 @@ import time
 from concurrent.futures import ThreadPoolExecutor
 from pathlib import Path
 
-HEADING = "changed,spared,clipped,missing"
+OLD_HEADING = "changed,spared,clipped,missing" # of versions 1
+HEADING = OLD_HEADING + ",risen,fallen"
 JOB = "round,7,7CF00000\n"
 EXAMPLE = f"method,setting,mark\n{JOB}rain,ozone\n40490FDB,7CF00000\n7CF00001,3F800000\n"
-ANSWER = f"rain,ozone\n40490000,7CF00000\n7CF00001,3F800000\n{HEADING}\n1,1,0,0\n0,0,0,1\n"
+ANSWER = f"rain,ozone\n40490000,7CF00000\n7CF00001,3F800000\n{HEADING}\n1,1,0,0,0,1\n0,0,0,1,0,0\n"
 TEXT, TRIMMED = {"t": EXAMPLE}, {"t.trimmed": ANSWER, "t.jobs": JOB}
 FIRST, AGAIN = ["t"], ["--again", "t.trimmed", "round", "6"]
 FORMS = [({**TEXT, "t.jobs": JOB}, ["--wipe", *FIRST]), (TRIMMED, AGAIN), (TEXT, FIRST), (TRIMMED, ["--wipe", *AGAIN])]
@@ -96,7 +97,7 @@ def model(tree, args):
     text = before[2].decode()
     if again:
         names, _, rest = text.partition("\n")
-        text = f"method,setting,mark\n{words[1]},{words[2]},{jobs[-9:]}{names}\n{rest.partition(HEADING)[0]}"
+        text = f"method,setting,mark\n{words[1]},{words[2]},{jobs[-9:]}{names}\n{rest.partition(OLD_HEADING)[0]}"
     if again and not wipe:
         tree[f"{base}.trimmed.{len(jobs.splitlines())}"] = before
     if wipe and not again:
@@ -147,10 +148,11 @@ def good_texts():
     verdict("the example", [] if answer_to(EXAMPLE) == ANSWER else ["trimlist answers otherwise"])
     for job, (series, rows) in itertools.product("shave,7 set,7 groom,7 halfshave,7 round,7 absolute,-3 digits,3".split(), [(1, 0), (1, 1), (8, 512)]):
         expect(f"{job}, {series} series of {rows}", lay({"t": text_of(job, series, rows)}), ["--wipe", "t"])
-    # names that read as the heading
-    folder = lay({"t": f"method,setting,mark\n{JOB}{HEADING}\n3F800000,40490FDB,7CF00000,00000000\n"})
-    for args in [FIRST, AGAIN, AGAIN, ["--wipe", *AGAIN], ["--again", "t.trimmed", "shave", "5"]]:
-        expect(f"names as the heading, {args}", folder, args)
+    # names that read as a heading
+    for names, row in [(HEADING, "3F800000,40490FDB,7CF00000,00000000,C0490FDB,7F7FFFFF"), (OLD_HEADING, "3F800000,C0490FDB,7CF00000,00000000")]:
+        folder = lay({"t": f"method,setting,mark\n{JOB}{names}\n{row}\n"})
+        for args in [FIRST, AGAIN, AGAIN, ["--wipe", *AGAIN], ["--again", "t.trimmed", "shave", "5"]]:
+            expect(f"names {names}, {args}", folder, args)
     for name in ["a b", "a\nb", "\n", "x=1", "a\\nb", "*", "[a-z]?", "$a;`b`", "'\"", "-n", "--again", "-", "t.trimmed", "é", "%s", "~"]:
         folder = lay({name: EXAMPLE, "axb": "decoy\n", "n": "decoy\n"})
         expect(f"the name {name!r}", folder, ["--", name])
@@ -223,16 +225,24 @@ def situations():
     yield {"t" * 250: EXAMPLE}, "other", "not too long a name", lambda p: None, ["t" * 250]
 
 
+# The counts of each series in ANSWER.
+FIRST_COUNTS, LAST_COUNTS = ANSWER.splitlines()[-2:]
 # No whole trimmed files: what is replaced in ANSWER, and by what. Each is said to be none.
 TORN = [("rain,ozone\n", ""), ("rain,ozone\n", "\n"), ("rain,ozone", "rain"), ("rain,ozone", "rain,ozone,snow"), ("\n4049", "\n\n4049"), ("40490000,7CF00000\n", ""),
         ("7CF00001,3F800000\n", ""), ("40490000", "4049000"), ("40490000", "040490000"), ("40490000", "4049000g"), ("40490000", "4049000a"), ("40490000", " 40490000"), ("40490000,", ""),
         ("40490000,", "40490000,,"), ("3F800000", "7CF00000"), ("3F800000", "3F800000,"), ("3F800000", "3F800000\0"), ("3F800000\n", "3F800000\0\n"),
-        (HEADING, HEADING.upper()), (HEADING, HEADING + ","), (HEADING + "\n", ""), (HEADING + "\n", f"{HEADING}\n{HEADING}\n"), (HEADING + "\n", HEADING + "\ngarbage\n"), ("1,1,0,0\n", ""),
-        ("1,1,0,0\n0,0,0,1\n", ""), ("1,1,0,0\n", "1,1,0,0\n\n"), ("1,1,0,0", "3,1,0,0"), ("1,1,0,0", "1,3,0,0"), ("1,1,0,0", "1,1,3,0"), ("1,1,0,0", "1,1,0,1"),
-        ("1,1,0,0", "2,1,0,0"), ("1,1,0,0", "1,1,2,0"), ("1,1,0,0", "1,1,0"), ("1,1,0,0", "1,1,0,0,0"), ("1,1,0,0", "1,1,0,"), ("1,1,0,0", "1,-1,0,0"),
-        ("1,1,0,0", "1,1,0,0x"), ("1,1,0,0", "1, 1,0,0"), ("1,1,0,0", "1,1,0,0e0"),
-        ("0,0,0,1\n", "0,0,0,0\n"), ("0,0,0,1\n", "0,0,0,10\n"), ("0,0,0,1\n", "0,0,0,1"), ("0,0,0,1\n", "0,0,0,1\0"), ("0,0,0,1\n", "0,0,0,1\n\n"),
-        ("0,0,0,1\n", "0,0,0,1\n0,0,0,1\n"), ("0,0,0,1\n", "0,0,0,1\ngarbage"), ("0,0,0,1\n", "0,0,0,1\n\0")]
+        (HEADING, HEADING.upper()), (HEADING, HEADING + ","), (HEADING + "\n", ""), (HEADING + "\n", f"{HEADING}\n{HEADING}\n"), (HEADING + "\n", HEADING + "\ngarbage\n"),
+        (HEADING, HEADING.removesuffix(",fallen")), (HEADING, HEADING.removesuffix(",risen,fallen")), (HEADING, HEADING.replace("risen,fallen", "fallen,risen")),
+        *((f"{FIRST_COUNTS}\n", new) for new in ["", f"{FIRST_COUNTS}\n\n", f"{LAST_COUNTS}\n"]), (f"{FIRST_COUNTS}\n{LAST_COUNTS}\n", ""),
+        # a count too large, a clipped reading that wasn't changed, a missing one that isn't there; what changed is as many as rose and fell
+        *((FIRST_COUNTS, new) for new in ["3,1,0,0,0,3", "3,1,0,0,2,1", "1,3,0,0,0,1", "1,1,3,0,0,1", "1,1,0,1,0,1", "2,1,0,0,0,2", "2,1,0,0,1,1", "1,1,2,0,0,1"]),
+        # what changed is not as many as rose and fell
+        *((FIRST_COUNTS, new) for new in ["1,1,0,0,0,0", "1,1,0,0,1,1", "1,1,0,0,0,2", "1,1,0,0,2,0", "0,1,0,0,0,1", "0,1,0,0,1,0", "2,1,0,0,0,1", "1,1,0,0,0,11"]),
+        # too few, too many, or no numbers
+        *((FIRST_COUNTS, new) for new in ["1,1,0,0", "1,1,0,0,1", "1,1,0,0,0,", "1,1,0,0,,1", "1,1,0,0,0,1,", "1,1,0,0,0,1,0", "1,-1,0,0,0,1", "1,1,0,0,-1,2", "1,1,0,0,0,1x",
+                                          "1, 1,0,0,0,1", "1,1,0,0,0, 1", "1,1,0,0,0,1e0"]),
+        *((f"{LAST_COUNTS}\n", new) for new in ["0,0,0,0,0,0\n", "0,0,0,10,0,0\n", LAST_COUNTS, f"{LAST_COUNTS}\0", f"{LAST_COUNTS}\n\n", f"{LAST_COUNTS}\n{LAST_COUNTS}\n",
+                                                f"{LAST_COUNTS}\ngarbage", f"{LAST_COUNTS}\n\0"])]
 
 
 def torn():
@@ -240,8 +250,14 @@ def torn():
         expect(f"{new!r} for {old!r}", lay({**TRIMMED, "t.trimmed": ANSWER.replace(old, new)}), ["--wipe", *AGAIN], 2, says="t.trimmed is no whole trimmed file: ")
     for length in range(len(ANSWER)):
         expect(f"cut after {length} bytes", lay({**TRIMMED, "t.trimmed": ANSWER[:length]}), ["--wipe", *AGAIN], 2, says="t.trimmed is no whole trimmed file: ")
+    # a file of versions 1, with four counts, is whole; cut short or with four counts in one line alone it isn't
+    old = ANSWER.replace(HEADING, OLD_HEADING).replace(FIRST_COUNTS, "1,1,0,0").replace(LAST_COUNTS, "0,0,0,1")
+    for args in [AGAIN, ["--wipe", *AGAIN]]:
+        expect(f"a file of version 1, {args}", lay({**TRIMMED, "t.trimmed": old}), args)
+    for torn_old in [old[:length] for length in range(len(old))] + [old.replace("1,1,0,0", FIRST_COUNTS), old.replace("0,0,0,1", LAST_COUNTS), old.replace("1,1,0,0", "2,1,0,0")]:
+        expect(f"a file of version 1: {torn_old!r}", lay({**TRIMMED, "t.trimmed": torn_old}), ["--wipe", *AGAIN], 2, says="t.trimmed is no whole trimmed file: ")
     # of names alone, and of another mark
-    expect("no readings", lay({**TRIMMED, "t.trimmed": f"rain\n{HEADING}\n0,0,0,0\n"}), AGAIN)
+    expect("no readings", lay({**TRIMMED, "t.trimmed": f"rain\n{HEADING}\n0,0,0,0,0,0\n"}), AGAIN)
     expect("another mark", lay({**TRIMMED, "t.jobs": "round,7,7CF00002\n"}), AGAIN, 2, says="t.trimmed is no whole trimmed file: ")
     # files of Windows
     for name, ending in itertools.product(TRIMMED, ["\r\n", "\n\r", "\r"]):
@@ -250,7 +266,7 @@ def torn():
     # a line of the user's
     for names, reason in [("rain,Ozone", "line 1: a name has "), ("rain,ozone\r", "line 1 ends in a carriage return")]:
         expect(f"the names {names!r}", lay({**TRIMMED, "t.trimmed": ANSWER.replace("rain,ozone", names)}), AGAIN, 1, says=f"t.trimmed: refused,9: {reason}")
-    text = "a\n" + "3F800000\n" * 513 + f"{HEADING}\n0,0,0,0\n"
+    text = "a\n" + "3F800000\n" * 513 + f"{HEADING}\n0,0,0,0,0,0\n"
     expect("513 lines", lay({**TRIMMED, "t.trimmed": text}), AGAIN, 1, says="refused,9: line 514: more than 512 lines")
     # nobody may write to it, but its owner may to what is made of it
     folder = lay(TEXT)
@@ -314,7 +330,7 @@ def steps_in_turn():
         got = run(args, folder)
         verdict(f"{args}, killed, and jobs changed", difference(want[1], picture(folder)) + ([] if got[0] == want[0] == 0 else [str(got)]))
     # an answer like the file before it is in place only once it was moved there
-    same = {"t.trimmed": ANSWER.replace("1,1,0,0", "0,1,0,0"), "t.jobs": JOB}
+    same = {"t.trimmed": ANSWER.replace(FIRST_COUNTS, "0,1,0,0,0,0"), "t.jobs": JOB}
     for how in ["killed", "killed late"]:
         cut(same, ["--again", "t.trimmed", "round", "7"], "mv", 4, how)
     # the answer is on the disk before it takes its place, and its place before the text is removed
@@ -365,9 +381,11 @@ def elsewhere():
 
 # ---- Fake trimlists: what the shell code writes is no whole answer, to the first form's text or the second's
 
-FAKES = """kill -9 $$|real; kill -9 $$|real; exit 3|echo refused,9; exit 1|:|echo|real | head -c 40|real | sed 2d|real | sed 3d|real | sed 2p|real; echo 1,0,0,0|real; echo
+FAKES = """kill -9 $$|real; kill -9 $$|real; exit 3|echo refused,9; exit 1|:|echo|real | head -c 40|real | sed 2d|real | sed 3d|real | sed 2p|real; echo 1,0,0,0,0,1|real; echo
 printf %s "$(real)"|printf '%s\\0' "$(real)"|real | sed 's/$/\\r/'|real; echo oops >&2|real | sed 1s/rain/snow/|real | sed 1s/,.*//|real | sed s/clipped/cut/
-real | sed '3{h;d};4G'|real | sed 4d|real | sed 4p|real | sed '$d'|real | sed '$p'|real | sed '5{h;d};6G'|real | sed '$s/^0/1/'|real | sed '$s/1$/0/'|real | sed '$s/,0//'
+real | sed '3{h;d};4G'|real | sed 4d|real | sed 4p|real | sed '$d'|real | sed '$p'|real | sed '5{h;d};6G'|real | sed '$s/^0/1/'|real | sed '$s/.*/1,0,0,1,0,1/'
+real | sed '$s/1/0/'|real | sed '$s/,0//'|real | sed '$s/,0,0$//'|real | sed 's/,risen,fallen//'|real | sed 's/,risen,fallen//;5,6s/,[^,]*,[^,]*$//'
+real | sed '5s/0,1$/1,0/'|real | sed '5s/1$/0/'|real | sed '5s/0,1$/1,1/'|real | sed '5s/1$/2/'|real | sed '5s/1,0,0,0,1$/1,0,0,,1/'
 real | sed '5s/1/one/'|real | sed '5s/0/-1/'|real | sed 3s/3F800000/3F800001/|real | sed 2s/7CF00000/7CF00001/|real | sed '2{s/40480000/40490000/;t;s/40490000/40490FDB/}'
 real | sed 2s/404[89]0000/4049000a/|real | sed 2s/404[89]0000/4049000/|real | sed 2s/404[89]0000/040490000/|real | sed '2s/$/,00000000/'|real | sed '3s/,.*//'
 echo refused,9; echo 'trimlist: the text could not be read' >&2|echo refused,9; echo more|echo refused,|echo refused,nine|echo refused,9x|printf refused,9"""
@@ -388,6 +406,8 @@ def fakes():
         tool = fake_program(code.replace("@", "|"))
         expect(f"trimlist is {code}", lay(TEXT), ["--wipe", "t"], 2, tool=tool)
         expect(f"trimlist is {code}, again", lay(TRIMMED), AGAIN, 2, tool=tool)
+    # a program of version 1
+    expect("trimlist is old", lay(TEXT), FIRST, 2, tool=fake_program("real | sed 's/,risen,fallen//;5,6s/,[^,]*,[^,]*$//'"), says="trimlist is of version 1")
     for code, wipe in itertools.product(MEANWHILE, [[], ["--wipe"]]):
         twin = lay(TEXT)
         subprocess.run(["sh", "-c", f"umask 027; {code}"], cwd=twin)

@@ -1,4 +1,4 @@
-//! Compares the trims of the C interface with a model of document 01 in exact whole numbers, place by place and count by count.
+//! Compares the trims of the C interface with a model of document 01 and of request (a) of document 02 in exact whole numbers, place by place and count by count.
 //!
 //! The model knows nothing of the library. Where the machine's own floats can give the same answer exactly, they are asked too,
 //! so that a slip in the model doesn't pass for a slip in the library. Every run makes the same comparisons. It first turns one rule of
@@ -10,7 +10,8 @@ mod model;
 mod nat;
 mod wrong;
 use met::Met;
-use model::{ends, tens, Form};
+use model::{ends, number, tens, ways, Form, Own};
+use std::cmp::Ordering::{self, Greater, Less};
 use std::process::exit;
 use wrong::{row, Model, Rule, DOUBLES, LOADER, SINGLES};
 
@@ -60,15 +61,15 @@ impl Job {
     }
 }
 
-/// A method's own results, before sparing, and whether they were clipped: of each reading at its place, and at a place of the other parity.
-struct Plain { here: Vec<(u64, bool)>, other: Vec<(u64, bool)> }
+/// A method's own results: of each reading at its place, and at a place of the other parity.
+struct Plain { here: Vec<Own>, other: Vec<Own> }
 impl Plain {
     fn of(model: &Model, job: Job, readings: &[u64]) -> Plain {
         let refused = model.form.refusal(job.method, job.setting) != 0;
-        let own = |i: usize, x, flip: bool| model.trim(job.method, job.setting, x, (i % 2 == 1) != flip);
-        let trim = |i, x, flip| if refused { (x, false) } else { own(i, x, flip) };
+        let own = |i: usize, x, flip: bool| model.own(job.method, job.setting, x, (i % 2 == 1) != flip);
+        let trim = |i, x, flip| if refused { (x, false, Ordering::Equal) } else { own(i, x, flip) };
         let all = |flip| readings.iter().enumerate().map(|(i, &x)| trim(i, x, flip)).collect();
-        let here: Vec<(u64, bool)> = all(false);
+        let here: Vec<Own> = all(false);
         let other = if job.method == 2 { all(true) } else { here.clone() }; // only groom asks for the place
         Plain { here, other }
     }
@@ -86,7 +87,7 @@ fn array(t: &mut Tally, model: &Model, job: Job, before: &[u64], plain: &Plain) 
     let guard = form.infinity / 2 + 0x2A5A5B; // trimming would change it
     let mut lent = vec![guard; n + front + 5];
     lent[front..front + n].copy_from_slice(before);
-    let mut counts = [UNTOLD; 6];
+    let mut counts = [UNTOLD; 9];
     let told = unsafe { counts.as_mut_ptr().add(1) };
     let mut singles: Vec<u32> = lent.iter().map(|&x| x as u32).collect();
     let answer = match call {
@@ -96,25 +97,28 @@ fn array(t: &mut Tally, model: &Model, job: Job, before: &[u64], plain: &Plain) 
     if call == SINGLES { lent = singles.iter().map(|&x| x as u64).collect(); }
     let (began, refusal) = (t.compared, model.refusal(method, setting));
     t.same(answer as u64, refusal as u64, || job.at("answer", n as u64, 0));
-    let mut want = [UNTOLD, 0, 0, 0, 0, UNTOLD];
+    let mut want = [UNTOLD, 0, 0, 0, 0, 0, 0, UNTOLD, UNTOLD];
     for i in 0..n {
         let old = before[i];
         let flip = model.is(Rule::PresentPlaces) && want[4] % 2 == 1; // so many missing readings stand before it
         let own = if flip { plain.other[i] } else { plain.here[i] };
         let (new, kinds) = if refusal != 0 { model.refused(old) } else { model.left(old, own, mark) };
         if refusal == 0 { t.met.reading(call, form, job, old, own, kinds, 1); }
-        (0..4).for_each(|k| want[k + 1] += kinds[k] as u64);
+        (0..6).for_each(|k| want[k + 1] += kinds[k] as u64);
         t.same(lent[front + i], new, || job.at("array", i as u64, old));
     }
     let outside = (0..front).chain(front + n..lent.len());
     outside.for_each(|i| t.same(lent[i], guard, || job.at("outside the array", i as u64, guard)));
-    let want = if refusal != 0 && !model.is(Rule::RefusedCounts) { [UNTOLD; 6] } else { model.counted(want) };
-    (0..6).for_each(|i| t.same(counts[i], want[i], || job.at("counts 1 to 4, 0 and 5 outside", i as u64, UNTOLD)));
+    let want = if refusal != 0 { model.uncounted(UNTOLD, want) } else { model.counted(want) };
+    (0..9).for_each(|i| t.same(counts[i], want[i], || job.at("counts 1 to 6, 0, 7 and 8 outside", i as u64, UNTOLD)));
+    let [_, changed, _, _, _, risen, fallen, ..] = counts;
+    if answer == 0 { t.same(risen.wrapping_add(fallen), changed, || job.at("risen and fallen, by changed", n as u64, 0)); }
     t.met.call(call, form, job, refusal, [1, n as u64, t.compared - began]);
     lent[front..front + n].to_vec()
 }
 
-/// The loader's call on each reading at places of both parities, against the model and against what the array call left.
+/// The loader's call on each reading at places of both parities, against the model and against what the array call left. How that stands to
+/// the reading is asked of the machine's floats there; what isn't finite stays.
 fn loader(t: &mut Tally, model: &Model, job: Job, before: &[u64], after: &[u64], plain: &Plain) {
     if t.skips(LOADER, job.method) { return; }
     let (began, refusal) = (t.compared, model.refusal(job.method, job.setting));
@@ -122,13 +126,14 @@ fn loader(t: &mut Tally, model: &Model, job: Job, before: &[u64], after: &[u64],
         for (flip, own) in [(0, plain.here[i]), (1, plain.other[i])] {
             let (new, kinds) = model.left(old, own, job.mark);
             if refusal == 0 { t.met.reading(LOADER, &model.form, job, old, own, kinds, 2); }
-            let want = if refusal == 0 { new } else { model.refused_alone(refusal) };
+            let want = if refusal == 0 { model.accepted_alone(new, kinds) } else { model.refused_alone(refusal) };
+            let [risen, fallen] = ways(model.form.machine_moved(old, after[i]).unwrap_or(Ordering::Equal));
             let places = [[0, 1 << 63], [1, u64::MAX]][(i + flip) % 2];
             for place in places {
                 let got = unsafe { megharutti_trim_single(old as u32, job.method, job.setting, job.mark as u32, place) };
                 t.same(got, want, || job.at("loader", place, old));
                 let beside = refusal == 0 && flip == 0 && t.only.is_none();
-                if beside { t.same(got, after[i], || job.at("loader beside array", place, old)); }
+                if beside { t.same(got, number(after[i], risen, fallen), || job.at("loader beside array", place, old)); }
             }
         }
     }
@@ -170,7 +175,7 @@ fn readings(t: &mut Tally, form: &Form, method: u32, setting: i32, tens: &[u64])
     out
 }
 /// Marks of each kind: NaNs, zeros, infinity, ends, a reading of the array, and patterns that trimming or clipping would make.
-fn marks(t: &mut Tally, form: &Form, readings: &[u64], plain: &[(u64, bool)]) -> Vec<u64> {
+fn marks(t: &mut Tally, form: &Form, readings: &[u64], plain: &[Own]) -> Vec<u64> {
     let top = form.infinity;
     let mut out = vec![top + (1 << (form.f - 1)), form.all, 0, form.sign, form.sign + top, t.pick(readings)];
     let made: Vec<u64> = (0..readings.len()).filter(|&i| plain[i].0 != readings[i]).map(|i| plain[i].0).collect();
@@ -181,37 +186,45 @@ fn marks(t: &mut Tally, form: &Form, readings: &[u64], plain: &[(u64, bool)]) ->
     out
 }
 
-/// The marked cases that concern trims, as document 01 prints them: name, method, the settings in turn, before, after.
-const CASES: [(&str, u32, &[i32], u64, u64); 16] = [
-    ("P1", 0, &[7], 0x40490FDB, 0x40490000), ("P2", 1, &[7], 0x40490FDB, 0x4049FFFF), ("P3", 3, &[7], 0x40490FDB, 0x40498000),
-    ("P4", 4, &[0], 0x40490FDB, 0x40800000), ("P5", 4, &[0], 0x3FC00000, 0x40000000), ("P5", 4, &[0], 0x40400000, 0x40000000),
-    ("P6", 4, &[7], 0x7F7FFFFF, 0x7F7F0000), ("P7", 5, &[0], 0x3F000000, 0x00000000), ("P7", 5, &[0], 0xBF000000, 0x80000000),
-    ("P7", 5, &[0], 0x3FC00000, 0x40000000), ("P8", 6, &[1], 0x40490FDB, 0x40600000), ("P8", 6, &[3], 0x40490FDB, 0x40494000),
-    ("P9", 6, &[1], 0x3DCCCCCD, 0x3DC00000), ("P9", 6, &[1, 1], 0x3DCCCCCD, 0x3DC80000),
-    ("P10", 4, &[8, 7], 0x3F817F80, 0x3F820000), ("P10", 4, &[7], 0x3F817F80, 0x3F810000),
+/// The marked cases that concern trims, as document 01 prints them: name, method, the settings in turn, before, after; and how the last
+/// setting moves the value.
+const CASES: [(&str, u32, &[i32], u64, u64, Ordering); 16] = [
+    ("P1", 0, &[7], 0x40490FDB, 0x40490000, Less), ("P2", 1, &[7], 0x40490FDB, 0x4049FFFF, Greater),
+    ("P3", 3, &[7], 0x40490FDB, 0x40498000, Greater), ("P4", 4, &[0], 0x40490FDB, 0x40800000, Greater),
+    ("P5", 4, &[0], 0x3FC00000, 0x40000000, Greater), ("P5", 4, &[0], 0x40400000, 0x40000000, Less),
+    ("P6", 4, &[7], 0x7F7FFFFF, 0x7F7F0000, Less), ("P7", 5, &[0], 0x3F000000, 0x00000000, Less),
+    ("P7", 5, &[0], 0xBF000000, 0x80000000, Greater), ("P7", 5, &[0], 0x3FC00000, 0x40000000, Greater),
+    ("P8", 6, &[1], 0x40490FDB, 0x40600000, Greater), ("P8", 6, &[3], 0x40490FDB, 0x40494000, Greater),
+    ("P9", 6, &[1], 0x3DCCCCCD, 0x3DC00000, Less), ("P9", 6, &[1, 1], 0x3DCCCCCD, 0x3DC80000, Greater),
+    ("P10", 4, &[8, 7], 0x3F817F80, 0x3F820000, Greater), ("P10", 4, &[7], 0x3F817F80, 0x3F810000, Less),
 ];
 
 fn marked_cases(t: &mut Tally, model: &Model) {
-    let mark = 0x7FC00000;
-    for (name, method, settings, start, after) in CASES {
+    let (mark, sign) = (0x7FC00000, model.form.sign);
+    // With the other sign what falls rises.
+    let opposite = CASES.map(|case| (case.0, case.1, case.2, case.3 ^ sign, case.4 ^ sign, case.5.reverse()));
+    for (name, method, settings, start, after, moved) in CASES.into_iter().chain(opposite) {
         let (&setting, earlier) = settings.split_last().unwrap();
-        let before = earlier.iter().fold(start, |x, &s| unsafe { megharutti_trim_single(x as u32, method, s, mark as u32, 0) });
-        let (job, printed) = (Job { method, setting, mark }, vec![(after, name == "P6")]);
-        t.same(model.form.trim(method, setting, before, false).0, after, || job.at("model", 0, before));
+        let loaded = |x: u64, s| unsafe { megharutti_trim_single(x as u32, method, s, mark as u32, 0) } % (1 << 32);
+        let before = earlier.iter().fold(start, |x, &s| loaded(x, s));
+        let (job, printed) = (Job { method, setting, mark }, vec![(after, name == "P6", moved)]);
+        let own = model.form.own(method, setting, before, false);
+        t.same(own.0, after, || job.at("model", 0, before));
+        t.same(own.2 as u64, moved as u64, || job.at("model's move", 0, before));
         let plain = Plain { here: printed.clone(), other: printed };
         let left = array(t, model, job, &[before], &plain);
         loader(t, model, job, &[before], &left, &plain);
     }
     // The document's list for the program, each series as one array, with the counts that it prints.
-    let series = [([0x40490FDB, 0x7CF00001], [0x40490000, 0x7CF00001], [1, 1, 0, 0]),
-        ([0x7CF00000, 0x3F800000], [0x7CF00000, 0x3F800000], [0, 0, 0, 1])];
+    let series = [([0x40490FDB, 0x7CF00001], [0x40490000, 0x7CF00001], [1, 1, 0, 0, 0, 1, 9]),
+        ([0x7CF00000, 0x3F800000], [0x7CF00000, 0x3F800000], [0, 0, 0, 1, 0, 0, 9])];
     for (before, after, counts) in series {
-        let (mut lent, mut told) = (before, [9; 4]);
+        let (mut lent, mut told) = (before, [9; 7]); // the last is outside
         let answer = unsafe { megharutti_trim_singles(lent.as_mut_ptr(), 2, 4, 7, 0x7CF00000, told.as_mut_ptr()) };
         let job = Job { method: 4, setting: 7, mark: 0x7CF00000 };
         t.same(answer as u64, 0, || job.at("answer", 0, before[0] as u64));
         (0..2).for_each(|i| t.same(lent[i] as u64, after[i], || job.at("the document's list", i as u64, before[i] as u64)));
-        (0..4).for_each(|i| t.same(told[i], counts[i], || job.at("the document's counts", i as u64, 9)));
+        (0..7).for_each(|i| t.same(told[i], counts[i], || job.at("the document's counts", i as u64, 9)));
     }
 }
 
@@ -224,12 +237,17 @@ fn decades(t: &mut Tally, form: &Form, tens: &[u64]) {
         t.met.decades += 1;
     }
 }
-/// The model beside the machine's floats.
+/// The model beside the machine's floats: its results, and its moves.
 fn machine(t: &mut Tally, form: &Form, job: Job, before: &[u64], plain: &Plain) {
-    for (&old, &(new, _)) in before.iter().zip(&plain.here) {
-        let Some(x) = form.machine(job.method, job.setting, old) else { continue };
-        t.same(new, x, || job.at("model, expected by the machine's floats", 0, old));
-        t.met.machine += 1;
+    for (&old, &(new, _, moved)) in before.iter().zip(&plain.here) {
+        if let Some(x) = form.machine(job.method, job.setting, old) {
+            t.same(new, x, || job.at("model, expected by the machine's floats", 0, old));
+            t.met.machine += 1;
+        }
+        if let Some(x) = form.machine_moved(old, new) {
+            t.same(moved as u64, x as u64, || job.at("model's move, expected by the machine's floats", 0, old));
+            t.met.moved += 1;
+        }
     }
 }
 /// Every setting of a method, one more on each side and the ends of the number. Those where the answer changes come first, so that a wrong
@@ -261,6 +279,7 @@ fn setting(t: &mut Tally, model: &Model, method: u32, setting: i32, tens: &[u64]
         normal.push(((1 + t.below((1 << form.e) - 1)) << form.f) + (t.random() >> (64 - form.f)) + form.sign * t.below(2));
     }
     let plain = Plain::of(model, job, &normal);
+    if !refused && t.only.is_none() { machine(t, form, job, &normal, &plain); }
     for mark in marks(t, form, &normal, &plain.here) { array(t, model, Job { mark, ..job }, &normal, &plain); }
 }
 /// Lengths around a block's, with missing readings strewn in, and with nothing else.
@@ -271,7 +290,14 @@ fn lengths(t: &mut Tally, model: &Model, method: u32) {
         let mut before: Vec<u64> = (0..n).map(|_| (t.random() & form.all) >> t.below(3)).collect();
         (0..n / 9).for_each(|_| before[t.below(n) as usize] = t.pick(&ends));
         let job = Job { method, setting: least + t.below((most - least + 1) as u64) as i32, mark: t.pick(&ends) };
-        array(t, model, job, &before, &Plain::of(model, job, &before));
+        let plain = Plain::of(model, job, &before);
+        array(t, model, job, &before, &plain);
+        // One reading all over, which rises or falls, so that a count is as large as it can be.
+        for way in [Greater, Less] {
+            let Some(at) = plain.here.iter().position(|own| own.2 == way) else { continue };
+            let alike = vec![before[at]; n as usize];
+            array(t, model, job, &alike, &Plain::of(model, job, &alike));
+        }
         let refused = Job { setting: -2000, ..job };
         array(t, model, refused, &before, &Plain::of(model, refused, &before));
         let missing = vec![job.mark; n as usize];

@@ -1,6 +1,6 @@
 //! The trims' model with no rule or one rule turned, and the test of the trims' test: it must see every wrong model.
 use crate::met::ten;
-use crate::model::{left, Form, Slip};
+use crate::model::{left, number, ways, Form, Kinds, Own, Slip};
 
 pub const CALLS: [&str; 3] = ["trim_singles", "trim_doubles", "trim_single"];
 pub const SINGLES: usize = 0;
@@ -14,16 +14,19 @@ pub fn named(row: usize) -> String { if row == 7 { "unknown".to_string() } else 
 #[derive(Clone, Copy, PartialEq)]
 pub enum Rule {
     Trim(Slip), TenBelow, Quieted, Finite, NotSpared, SparedChanged, SparedClipped, MissingTrimmed, ByValue, ZerosAlike, NansAlike,
-    Parity, PresentPlaces, Count(usize), RefusedWrites, RefusedCounts, RefusalAlone, Order21, Range(i32, i32),
+    Parity, PresentPlaces, Count(usize), RefusedWrites, RefusedCounts, RefusedCount(usize), RefusalAlone, Order21, Range(i32, i32),
+    Exchanged, GainsExchanged, RefusalGains(u32), BySize, SparedRisen, SparedFallen, MissingMoved, ClipTurned, ClipStays, ZeroStays(u64),
+    TinyStays,
 }
 use Rule::*;
 
 const ALL: &[usize] = &[0, 1, 2, 3, 4, 5, 6];
 const WITH_UNKNOWN: &[usize] = &[0, 1, 2, 3, 4, 5, 6, 7];
+const TO_ZERO: &[usize] = &[0, 2, 4, 5]; // the others make no zero of what isn't one
 /// Each rule, the methods by which an array call can show it, and those by which the loader's call can. The loader's call has no counts and
 /// no array. By it a zero or a NaN looks the same whether it is missing or stays, so a zero that passes for the mark shows only where a
-/// method makes a zero of something else, and a NaN that does so never.
-const TURNED: [(Rule, &str, &[usize], &[usize]); 33] = [
+/// method makes a zero of something else, and a NaN that does so never. What a reading counts as risen or fallen shows in its number.
+const TURNED: [(Rule, &str, &[usize], &[usize]); 55] = [
     (Trim(Slip::TieUp), "a tie goes up", &[4, 5], &[4, 5]),
     (Trim(Slip::Overflow), "round passes the largest finite pattern", &[4], &[4]),
     (Trim(Slip::ClipToTop), "a clipped reading becomes the largest finite pattern", &[4, 5], &[4, 5]),
@@ -40,8 +43,8 @@ const TURNED: [(Rule, &str, &[usize], &[usize]); 33] = [
     (SparedChanged, "a spared reading counts as changed", ALL, &[]),
     (SparedClipped, "a spared reading counts as clipped too", &[4, 5], &[]),
     (MissingTrimmed, "missing readings are trimmed", ALL, ALL),
-    (ByValue, "the mark is compared by value", ALL, &[0, 2, 4, 5]),
-    (ZerosAlike, "the mark is compared by value among zeros only", ALL, &[0, 2, 4, 5]),
+    (ByValue, "the mark is compared by value", ALL, TO_ZERO),
+    (ZerosAlike, "the mark is compared by value among zeros only", ALL, TO_ZERO),
     (NansAlike, "every NaN is missing where the mark is one", ALL, &[]),
     (Parity, "groom sets at even places", &[2], &[2]),
     (PresentPlaces, "missing readings don't count as places", &[2], &[]),
@@ -49,9 +52,31 @@ const TURNED: [(Rule, &str, &[usize], &[usize]); 33] = [
     (Count(1), "one more is counted as spared", ALL, &[]),
     (Count(2), "one more is counted as clipped", ALL, &[]),
     (Count(3), "one more is counted as missing", ALL, &[]),
+    (Count(4), "one more is counted as risen", ALL, &[]),
+    (Count(5), "one more is counted as fallen", ALL, &[]),
+    (Count(6), "something is written behind the counts", ALL, &[]),
+    (Exchanged, "risen and fallen are exchanged", ALL, &[]),
+    (GainsExchanged, "2^33 is the gain for a fall, and 2^34 for a rise", &[], ALL),
+    (BySize, "a rise is one of the size, without its sign", ALL, ALL),
+    (SparedRisen, "a spared reading counts as risen where its result would have", ALL, ALL),
+    (SparedFallen, "a spared reading counts as fallen where its result would have", ALL, ALL),
+    (MissingMoved, "a missing reading counts as moved where it would have", ALL, ALL),
+    (ClipTurned, "a clipped reading counts the other way", &[4, 5], &[4, 5]),
+    (ClipStays, "a clipped reading counts as stayed", &[4, 5], &[4, 5]),
+    (ZeroStays(0), "a reading that becomes +0 counts as stayed", TO_ZERO, TO_ZERO),
+    (ZeroStays(1), "a reading that becomes -0 counts as stayed", TO_ZERO, TO_ZERO),
+    (TinyStays, "a subnormal reading counts as stayed where it stays one or becomes zero", ALL, ALL),
     (RefusedWrites, "a refused call changes the array", WITH_UNKNOWN, &[]),
     (RefusedCounts, "a refused call writes the counts", WITH_UNKNOWN, &[]),
+    (RefusedCount(0), "a refused call writes the count of changed", WITH_UNKNOWN, &[]),
+    (RefusedCount(1), "a refused call writes the count of spared", WITH_UNKNOWN, &[]),
+    (RefusedCount(2), "a refused call writes the count of clipped", WITH_UNKNOWN, &[]),
+    (RefusedCount(3), "a refused call writes the count of missing", WITH_UNKNOWN, &[]),
+    (RefusedCount(4), "a refused call writes the count of risen", WITH_UNKNOWN, &[]),
+    (RefusedCount(5), "a refused call writes the count of fallen", WITH_UNKNOWN, &[]),
     (RefusalAlone, "a refusal's number comes without 2^32", &[], WITH_UNKNOWN),
+    (RefusalGains(33), "a refusal gains 2^33", &[], WITH_UNKNOWN),
+    (RefusalGains(34), "a refusal gains 2^34", &[], WITH_UNKNOWN),
     (Order21, "2 is asked before 1", &[7], &[7]),
     (Range(-1, 0), "the least setting is one too low", ALL, ALL),
     (Range(1, 0), "the least setting is one too high", ALL, ALL),
@@ -68,15 +93,16 @@ impl Model {
         self
     }
     pub fn is(&self, rule: Rule) -> bool { self.turned == Some(rule) }
-    /// What the method makes of a reading that isn't the mark, before sparing, and whether it was clipped.
-    pub fn trim(&self, method: u32, setting: i32, reading: u64, odd: bool) -> (u64, bool) {
+    /// The method's own result at a reading that isn't the mark.
+    pub fn own(&self, method: u32, setting: i32, reading: u64, odd: bool) -> Own {
         let (form, m) = (&self.form, reading % self.form.sign);
+        let made = |new| (new, false, form.moved(reading, new));
         match self.turned {
             // Only the decade less the digits matters.
-            Some(TenBelow) if method == 6 && ten(form, m) => form.trim(method, setting + 1, reading, odd),
-            Some(Quieted) if m > form.infinity => (reading | 1 << (form.f - 1), false),
-            Some(Finite) if m == form.infinity => (reading - 1, false),
-            _ => form.trim(method, setting, reading, odd != self.is(Parity)),
+            Some(TenBelow) if method == 6 && ten(form, m) => form.own(method, setting + 1, reading, odd),
+            Some(Quieted) if m > form.infinity => made(reading | 1 << (form.f - 1)),
+            Some(Finite) if m == form.infinity => made(reading - 1),
+            _ => form.own(method, setting, reading, odd != self.is(Parity)),
         }
     }
     pub fn refusal(&self, method: u32, setting: i32) -> u32 {
@@ -95,31 +121,59 @@ impl Model {
         let (zeros, nans) = (a == 0 && b == 0, a > top && b > top);
         x != mark && (zeros && (self.is(ByValue) || self.is(ZerosAlike)) || nans && self.is(NansAlike))
     }
-    /// What a place of an array holds after an accepted call, and whether it counts as changed, spared, clipped and missing.
-    pub fn left(&self, old: u64, own: (u64, bool), mark: u64) -> (u64, [bool; 4]) {
-        let (new, [changed, spared, clipped, missing]) = left(old, own, mark);
+    /// What a place of an array holds after an accepted call, and what it counts as.
+    pub fn left(&self, old: u64, own: Own, mark: u64) -> (u64, Kinds) {
+        let (new, kinds) = left(old, own, mark);
+        let [changed, spared, clipped, missing, risen, fallen] = kinds;
+        let (negative, tiny) = (old >= self.form.sign, |x: u64| x % self.form.sign < 1 << self.form.f);
+        let [up, down] = ways(own.2);
+        // The same with other moves.
+        let moving = |risen, fallen| (new, [changed, spared, clipped, missing, risen, fallen]);
         match self.turned {
             None => (),
-            Some(NotSpared) if spared => return (own.0, [true, false, own.1, false]),
-            Some(SparedChanged) if spared => return (new, [true, spared, clipped, missing]),
-            Some(SparedClipped) if spared => return (new, [changed, spared, own.1, missing]),
-            Some(MissingTrimmed) if missing => return (own.0, [changed, spared, clipped, missing]),
+            Some(NotSpared) if spared => return (own.0, [true, false, own.1, false, up, down]),
+            Some(SparedChanged) if spared => return (new, [true, spared, clipped, missing, risen, fallen]),
+            Some(SparedClipped) if spared => return (new, [changed, spared, own.1, missing, risen, fallen]),
+            Some(SparedRisen) if spared => return moving(up, fallen),
+            Some(SparedFallen) if spared => return moving(risen, down),
+            Some(MissingTrimmed) if missing => return (own.0, kinds),
+            Some(MissingMoved) if missing => return moving(up, down),
+            Some(Exchanged) => return moving(fallen, risen),
+            Some(BySize) if negative => return moving(fallen, risen),
+            Some(ClipTurned) if clipped => return moving(fallen, risen),
+            Some(ClipStays) if clipped => return moving(false, false),
+            Some(ZeroStays(sign)) if new == sign * self.form.sign => return moving(false, false),
+            Some(TinyStays) if tiny(old) && tiny(new) => return moving(false, false),
             // A NaN isn't equal to itself.
-            Some(ByValue) if missing && mark % self.form.sign > self.form.infinity => return (new, [false; 4]),
+            Some(ByValue) if missing && mark % self.form.sign > self.form.infinity => return (new, [false; 6]),
             _ if self.alike(old, mark) => return left(old, own, old),
             _ if self.alike(own.0, mark) => return left(old, own, own.0),
             _ => (),
         }
-        (new, [changed, spared, clipped, missing])
+        (new, kinds)
     }
     /// What a place holds after a refused call.
-    pub fn refused(&self, old: u64) -> (u64, [bool; 4]) { (if self.is(RefusedWrites) { old ^ 1 } else { old }, [false; 4]) }
-    /// What the loader's call answers where it refuses.
-    pub fn refused_alone(&self, refusal: u32) -> u64 { if self.is(RefusalAlone) { refusal as u64 } else { (1 << 32) + refusal as u64 } }
-    /// The counts, which stand from 1 on.
-    pub fn counted(&self, mut counts: [u64; 6]) -> [u64; 6] {
+    pub fn refused(&self, old: u64) -> (u64, Kinds) { (if self.is(RefusedWrites) { old ^ 1 } else { old }, [false; 6]) }
+    /// What the loader's call answers where it accepts, and where it refuses.
+    pub fn accepted_alone(&self, new: u64, [.., risen, fallen]: Kinds) -> u64 {
+        if self.is(GainsExchanged) { number(new, fallen, risen) } else { number(new, risen, fallen) }
+    }
+    pub fn refused_alone(&self, refusal: u32) -> u64 {
+        let gain = if let Some(RefusalGains(bit)) = self.turned { 1 << bit } else { 0 };
+        gain + if self.is(RefusalAlone) { refusal as u64 } else { (1 << 32) + refusal as u64 }
+    }
+    /// The counts of an accepted call, which stand from 1 to 6, and what stands before and behind them.
+    pub fn counted(&self, mut counts: [u64; 9]) -> [u64; 9] {
         if let Some(Count(k)) = self.turned { counts[k + 1] += 1; }
         counts
+    }
+    /// The same after a refused call, which finds them all alike.
+    pub fn uncounted(&self, untold: u64, counts: [u64; 9]) -> [u64; 9] {
+        match self.turned {
+            Some(RefusedCounts) => counts,
+            Some(RefusedCount(k)) => { let mut out = [untold; 9]; out[k + 1] = counts[k + 1]; out }
+            _ => [untold; 9],
+        }
     }
 }
 

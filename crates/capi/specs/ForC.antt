@@ -10,4 +10,4 @@ numberForC (accepted a) = 0
 
 unfoldable pub countsForC : Outcome Counts → List ℕ → List ℕ
 countsForC (refused n) before = before
-countsForC (accepted c) before = c .changed-places ∷ c .spared-places ∷ c .clipped-places ∷ c .missing-places ∷ []
+countsForC (accepted c) before = c .changed-places ∷ c .spared-places ∷ c .clipped-places ∷ c .missing-places ∷ c .risen-places ∷ c .fallen-places ∷ []

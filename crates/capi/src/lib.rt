@@ -10,7 +10,7 @@ ghost use Rattle.unpacking.specs.Answers as unpacking;
 ghost use Rattle.capi.specs.ForC.{numberForC, countsForC};
 
 // An answer in C's form.
-fn hand_over(answer: trim::Answer, counts: &mut [u64; 4]) -> u32
+fn hand_over(answer: trim::Answer, counts: &mut [u64; 6]) -> u32
     ensures number { λ r. ⌜ r ≡ numberForC (answerOf answer) ⌝ }
     ensures counted { λ _. ⌜ now (counts .exit) ≡ countsForC (answerOf answer) (now (counts .entry)) ⌝ }
 {
@@ -20,22 +20,24 @@ fn hand_over(answer: trim::Answer, counts: &mut [u64; 4]) -> u32
             spared,
             clipped,
             missing,
+            risen,
+            fallen,
         } => {
-            *counts = [changed, spared, clipped, missing];
+            *counts = [changed, spared, clipped, missing, risen, fallen];
             0
         }
         trim::Answer::Refused(n) => n,
     }
 }
 
-// Trims an array of singles in place. `counts` gets the places changed, spared, clipped and missing.
+// Trims an array of singles in place. `counts` gets the places changed, spared, clipped, missing, risen and fallen.
 #[no_mangle]
 pub extern "C" fn megharutti_trim_singles(
     readings: &mut [u32],
     method: u32,
     setting: i32,
     mark: u32,
-    counts: &mut [u64; 4],
+    counts: &mut [u64; 6],
 ) -> u32
     ensures answer { λ r. ⌜ r ≡ numberForC (trimSingles method setting mark (now (readings .entry)) .answer) ⌝ }
     ensures content { λ _. ⌜ now (readings .exit) ≡ trimSingles method setting mark (now (readings .entry)) .readings ⌝ }
@@ -45,14 +47,14 @@ pub extern "C" fn megharutti_trim_singles(
     hand_over(answer, counts)
 }
 
-// Trims an array of doubles in place. `counts` gets the places changed, spared, clipped and missing.
+// Trims an array of doubles in place. `counts` gets the places changed, spared, clipped, missing, risen and fallen.
 #[no_mangle]
 pub extern "C" fn megharutti_trim_doubles(
     readings: &mut [u64],
     method: u32,
     setting: i32,
     mark: u64,
-    counts: &mut [u64; 4],
+    counts: &mut [u64; 6],
 ) -> u32
     ensures answer { λ r. ⌜ r ≡ numberForC (trimDoubles method setting mark (now (readings .entry)) .answer) ⌝ }
     ensures content { λ _. ⌜ now (readings .exit) ≡ trimDoubles method setting mark (now (readings .entry)) .readings ⌝ }
@@ -62,7 +64,8 @@ pub extern "C" fn megharutti_trim_doubles(
     hand_over(answer, counts)
 }
 
-// Trims one single as the array call would at a place: the pattern that is left, or 2^32 plus the refusal's number.
+// Trims one single as the array call would at a place: the pattern that is left, plus 2^33 where its exact value rose and 2^34 where it fell; or 2^32 plus the
+// refusal's number.
 #[no_mangle]
 pub extern "C" fn megharutti_trim_single(
     reading: u32,

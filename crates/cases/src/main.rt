@@ -1,4 +1,4 @@
-// The test program that people read: cases of document 01 and of the papers, run on the library and printed as a table. The cases stand in `stdin`, one to a line.
+// The test program that people read: cases of documents 01 and 02 and of the papers, run on the library and printed as a table. The cases stand in `stdin`, one to a line.
 //
 // To add a case, write it beside its like: its kind, where it stands in which document, what is given, what that document says must come. Type what must come from the
 // document and never from what the program printed. `kinds.rt` has how a row of each kind is written.

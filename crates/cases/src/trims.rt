@@ -40,16 +40,55 @@ const PI: u32 = 0x40490FDB;
 
 const PI_DOUBLE: u64 = 0x400921FB54442D18;
 
-// What the counts of an array of one say; its pattern changed or not.
-fn fate_of(answer: trim::Answer, is_changed: bool) -> u32 {
+// Where the exact value went, from one pattern to another of the same sign.
+pub enum Way {
+    Up,
+    Down,
+    Nowhere,
+}
+
+// Below zero, the larger pattern lies lower.
+fn went(negative: bool, stays: bool, grows: bool) -> Way {
+    if stays {
+        return Way::Nowhere;
+    }
+    if grows != negative {
+        Way::Up
+    } else {
+        Way::Down
+    }
+}
+
+// The counts changed, risen and fallen of an array of one whose exact value went there.
+fn agree(to: Way, changed: u64, risen: u64, fallen: u64) -> bool {
+    match to {
+        Way::Up => changed == 1 && risen == 1 && fallen == 0,
+        Way::Down => changed == 1 && risen == 0 && fallen == 1,
+        Way::Nowhere => changed == 0 && risen == 0 && fallen == 0,
+    }
+}
+
+// What stands above the pattern in the loader's number.
+fn gain(to: Way) -> u64 {
+    match to {
+        Way::Up => 2,
+        Way::Down => 4,
+        Way::Nowhere => 0,
+    }
+}
+
+// What the counts of an array of one say, whose exact value went there.
+fn fate_of(answer: trim::Answer, to: Way) -> u32 {
     match answer {
         trim::Answer::Counts {
             changed,
             spared,
             clipped,
             missing,
+            risen,
+            fallen,
         } => {
-            if changed != is_changed as u64 {
+            if !agree(to, changed, risen, fallen) {
                 return CONTRADICTORY;
             }
             if spared == 0 && clipped == 0 && missing == 0 {
@@ -88,10 +127,12 @@ pub fn one_single(row: &[u8]) -> bool {
     let mut readings = [x];
     let answer = trim::trim_singles(&mut readings, by, setting, missing);
     let got = readings[0];
-    let got_fate = fate_of(answer, got != x);
+    let to = went(x >= 0x8000_0000, got == x, got > x);
+    let got_fate = fate_of(answer, to);
     let loaded = trim::trim_single(x, by, setting, missing, 0);
     let at = columns(start_call(row), x, missing, expected, got);
-    let ok = got == expected && loaded == expected as u64 && got_fate == fate(row, 7);
+    let told = loaded % 4294967296 == expected as u64 && loaded / 4294967296 == gain(to);
+    let ok = got == expected && told && got_fate == fate(row, 7);
     judge_fate(row, at, ok, got_fate)
 }
 
@@ -149,7 +190,7 @@ pub fn double(row: &[u8]) -> bool {
     let mut readings = [x];
     let answer = trim::trim_doubles(&mut readings, method(row, 2), signed(row, 3), MARK_DOUBLE);
     let got = readings[0];
-    let got_fate = fate_of(answer, got != x);
+    let got_fate = fate_of(answer, went(x >= 0x8000_0000_0000_0000, got == x, got > x));
     let at = double_at(start_call(row), 38, x);
     let at = double_at(at, 56, expected);
     let at = double_at(at, 74, got);
@@ -164,6 +205,8 @@ fn number_of(answer: trim::Answer) -> u32 {
             spared: _,
             clipped: _,
             missing: _,
+            risen: _,
+            fallen: _,
         } => 0,
         trim::Answer::Refused(n) => n,
     }
@@ -182,7 +225,8 @@ pub fn asked(row: &[u8]) -> bool {
     let answer = trim::trim_singles(&mut readings, by, setting, MARK);
     let loaded = trim::trim_single(PI, by, setting, MARK, 0);
     let at = put_text(start_call(row), b", singles");
-    let ok = expected == 0 && loaded < 4294967296
+    let above = loaded / 4294967296;
+    let ok = expected == 0 && (above == 0 || above == 2 || above == 4)
         || readings[0] == PI && loaded == 4294967296 + expected as u64;
     answered(row, at, expected, number_of(answer), ok)
 }

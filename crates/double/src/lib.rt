@@ -11,13 +11,15 @@ ghost use Rattle.reading.specs.Left.{settledFrom, settledBy, settledTail};
 ghost use Rattle.reading.specs.Tails.{constants, TailOf, tailWord, roundWord, roundOver};
 ghost use Rattle.double.specs.Left.{settledOf, constantsOf};
 
-// What is left of a double, and numbers of 0 or 1: whether it is changed, whether it or its result is the mark, whether it is clipped, whether it is missing.
+// What is left of a double, and numbers of 0 or 1: whether it is changed, whether it or its result is the mark, whether it is clipped, whether it is missing, whether
+// its exact value rose.
 pub struct Double {
     pub pattern: u64,
     pub changed: u64,
     pub marked: u64,
     pub clipped: u64,
     pub missing: u64,
+    pub risen: u64,
 }
 
 // `yes` where a and b are equal, `no` where they differ.
@@ -27,22 +29,27 @@ pub fn choose_double(a: u64, b: u64, yes: u64, no: u64) -> u64
     if a == b { yes } else { no }
 }
 
-// The reading x whose new pattern would be z: x itself where it is missing or z is the mark. `over` is 1 where z is clipped.
+// The reading x whose new pattern would be z: x itself where it is missing or z is the mark. `over` is 1 where z is clipped. What x loses wraps around: its top bit is 1
+// where the magnitude grows, a rise above zero; below zero a rise is where the magnitude shrinks.
 pub fn settle_double(x: u64, z: u64, over: u64, mark: u64) -> Double
-    ensures { λ r. ⌜ settledOf r ≡ settledFrom mark x z over ⌝ }
+    ensures { λ r. ⌜ settledOf r ≡ settledFrom 52 11 mark x z over ⌝ }
 {
     let y = choose_double(x, mark, x, z);
     let p = choose_double(y, mark, x, y);
+    let less = std::num::wrapping_sub_u64(x, p);
     let changed = choose_double(p, x, 0, 1);
     let marked = choose_double(y, mark, 1, 0);
     let clipped = choose_double(p, x, 0, over);
     let missing = choose_double(x, mark, 1, 0);
+    let turned = choose_double(x >> 63, less >> 63, 0, 1);
+    let risen = changed & turned;
     Double {
         pattern: p,
         changed,
         marked,
         clipped,
         missing,
+        risen,
     }
 }
 
@@ -103,7 +110,7 @@ fn unless_zero(m: u64, add: u64) -> u64
 pub fn tail_double(x: u64, tail: Tail, add: u64, mark: u64) -> Double
     requires { ⌜ (TailOf 52 (constantsOf tail)) × (add ≤ tail .ones) ⌝ }
     ensures result { λ r. ⌜ settledOf r ≡ settledTail 52 11 (tail .bits) add mark x ⌝ }
-    ensures words { λ r. ⌜ settledOf r ≡ settledFrom mark x (tailWord 52 11 (constantsOf tail) add x) 0 ⌝ }
+    ensures words { λ r. ⌜ settledOf r ≡ settledFrom 52 11 mark x (tailWord 52 11 (constantsOf tail) add x) 0 ⌝ }
 {
     let m = x % 0x8000_0000_0000_0000;
     let s = x - (x & tail.ones);
@@ -117,7 +124,7 @@ pub fn tail_double(x: u64, tail: Tail, add: u64, mark: u64) -> Double
 pub fn round_double(x: u64, tail: Tail, mark: u64) -> Double
     requires { ⌜ (TailOf 52 (constantsOf tail)) × (1 ≤ tail .bits) ⌝ }
     ensures result { λ r. ⌜ settledOf r ≡ settledBy 52 11 (round (52 - tail .bits)) mark 0 x ⌝ }
-    ensures words { λ r. ⌜ settledOf r ≡ settledFrom mark x (roundWord 52 11 (constantsOf tail) x) (roundOver 52 11 (constantsOf tail) x) ⌝ }
+    ensures words { λ r. ⌜ settledOf r ≡ settledFrom 52 11 mark x (roundWord 52 11 (constantsOf tail) x) (roundOver 52 11 (constantsOf tail) x) ⌝ }
 {
     let m = x % 0x8000_0000_0000_0000;
     let odd = (m >> tail.bits) % 2;

@@ -1,5 +1,5 @@
--- Document 01's own listing byte for byte, then each method's word, each bound of the form and each refusal, as one table about the definitions. Each row is
--- proved by computing it. From the second row on the header stands before each text.
+-- Document 01's own listing byte for byte, with the two columns of document 02 (a), then each method's word, each bound of the form and each refusal, as one
+-- table about the definitions. Each row is proved by computing it. From the second row on the header stands before each text, and the heading before the counts.
 use mathlib.Core.Path.{refl}
 use Rattle.form.proofs.CasesRows.{Prints, Lists, Repeats, Refuses, Many}
 
@@ -7,23 +7,26 @@ pub record Listings : Type 0 where
   own :
       Prints
       "method,setting,mark\nround,7,7CF00000\nrain,ozone\n40490FDB,7CF00000\n7CF00001,3F800000\n"
-      "rain,ozone\n40490000,7CF00000\n7CF00001,3F800000\nchanged,spared,clipped,missing\n1,1,0,0\n0,0,0,1\n"
+      "rain,ozone\n40490000,7CF00000\n7CF00001,3F800000\nchanged,spared,clipped,missing,risen,fallen\n1,1,0,0,0,1\n0,0,0,1,0,0\n"
   -- "the known words are the seven methods' names"
-  shave : Lists "shave,7,7CF00000\na\n40490FDB\n" "a\n40490000\n" "1,0,0,0\n"
-  set : Lists "set,7,7CF00000\na\n40490FDB\n" "a\n4049FFFF\n" "1,0,0,0\n"
+  shave : Lists "shave,7,7CF00000\na\n40490FDB\n" "a\n40490000\n" "1,0,0,0,0,1\n"
+  set : Lists "set,7,7CF00000\na\n40490FDB\n" "a\n4049FFFF\n" "1,0,0,0,1,0\n"
   -- "Each series is one array": its places are its lines
-  groom : Lists "groom,7,7CF00000\na,b\n40490FDB,40490FDB\n40490FDB,40490FDB\n" "a,b\n40490000,40490000\n4049FFFF,4049FFFF\n" "2,0,0,0\n2,0,0,0\n"
-  halfshave : Lists "halfshave,7,7CF00000\na\n40490FDB\n" "a\n40498000\n" "1,0,0,0\n"
-  round : Lists "round,7,7CF00000\na\n7F7FFFFF\n" "a\n7F7F0000\n" "1,0,1,0\n"
-  absolute : Lists "absolute,-1,7CF00000\na\n40490FDB\n" "a\n40400000\n" "1,0,0,0\n"
-  digits : Lists "digits,3,7CF00000\na\n40490FDB\n" "a\n40494000\n" "1,0,0,0\n"
+  groom : Lists "groom,7,7CF00000\na,b\n40490FDB,40490FDB\n40490FDB,40490FDB\n" "a,b\n40490000,40490000\n4049FFFF,4049FFFF\n" "2,0,0,0,1,1\n2,0,0,0,1,1\n"
+  halfshave : Lists "halfshave,7,7CF00000\na\n40490FDB\n" "a\n40498000\n" "1,0,0,0,1,0\n"
+  round : Lists "round,7,7CF00000\na\n7F7FFFFF\n" "a\n7F7F0000\n" "1,0,1,0,0,1\n"
+  absolute : Lists "absolute,-1,7CF00000\na\n40490FDB\n" "a\n40400000\n" "1,0,0,0,0,1\n"
+  digits : Lists "digits,3,7CF00000\na\n40490FDB\n" "a\n40494000\n" "1,0,0,0,1,0\n"
+  -- document 02 (a): "whether the exact value rose, fell or stayed". A negative reading that is shaved rises, and so does one that becomes -0
+  negative : Lists "shave,7,7CF00000\na\nC0490FDB\n" "a\nC0490000\n" "1,0,0,0,1,0\n"
+  minus-half : Lists "absolute,0,7CF00000\na\nBF000000\nBFE00000\n" "a\n80000000\nC0000000\n" "2,0,0,0,1,1\n"
   -- "an optional minus, 1 to 4 digits, leading zeros allowed"
-  zeros : Lists "shave,0007,7CF00000\na\n40490FDB\n" "a\n40490000\n" "1,0,0,0\n"
-  minus-zero : Lists "round,-0,7CF00000\na\n40490FDB\n" "a\n40800000\n" "1,0,0,0\n"
+  zeros : Lists "shave,0007,7CF00000\na\n40490FDB\n" "a\n40490000\n" "1,0,0,0,0,1\n"
+  minus-zero : Lists "round,-0,7CF00000\na\n40490FDB\n" "a\n40800000\n" "1,0,0,0,1,0\n"
   -- "1 to 8 series names (1 to 16 letters a to z each)", "Names may repeat", "0 to 512 lines"
-  no-lines : Lists "round,7,7CF00000\na\n" "a\n" "0,0,0,0\n"
-  eight : Lists "round,7,7CF00000\na,z,a,a,a,a,a,abcdefghijklmnop\n" "a,z,a,a,a,a,a,abcdefghijklmnop\n" "0,0,0,0\n0,0,0,0\n0,0,0,0\n0,0,0,0\n0,0,0,0\n0,0,0,0\n0,0,0,0\n0,0,0,0\n"
-  most : Repeats "shave,7,7CF00000\na\n" 512 "40490FDB\n" "a\n" "40490000\n" "512,0,0,0\n"
+  no-lines : Lists "round,7,7CF00000\na\n" "a\n" "0,0,0,0,0,0\n"
+  eight : Lists "round,7,7CF00000\na,z,a,a,a,a,a,abcdefghijklmnop\n" "a,z,a,a,a,a,a,abcdefghijklmnop\n" "0,0,0,0,0,0\n0,0,0,0,0,0\n0,0,0,0,0,0\n0,0,0,0,0,0\n0,0,0,0,0,0\n0,0,0,0,0,0\n0,0,0,0,0,0\n0,0,0,0,0,0\n"
+  most : Repeats "shave,7,7CF00000\na\n" 512 "40490FDB\n" "a\n" "40490000\n" "512,0,0,0,0,512\n"
   -- "does the text have the form above ..? No: 9": the header
   nothing : Prints "" "refused,9\n"
   no-header : Prints "round,7,7CF00000\na\n" "refused,9\n"
@@ -82,6 +85,8 @@ listings =
       round = refl;
       absolute = refl;
       digits = refl;
+      negative = refl;
+      minus-half = refl;
       zeros = refl;
       minus-zero = refl;
       no-lines = refl;

@@ -8,7 +8,7 @@ use Rattle.form.specs.Form
 use Rattle.form.specs.Form.{bytes, header}
 use Rattle.form.specs.Parse
 use Rattle.form.specs.Output
-use Rattle.form.specs.Output.{listed}
+use Rattle.form.specs.Output.{countsHeading, listed}
 
 -- what is printed for a text
 unfoldable pub shown : List ℕ → List ℕ
@@ -25,15 +25,15 @@ unfoldable pub times : ℕ → List ℕ → List ℕ
 times zero w = []
 times (suc n) w = w ++ times n w
 
--- the header, s and n lines v print the names, n lines w and the counts c
+-- the header, s and n lines v print the names, n lines w, the heading and the counts c
 unfoldable pub Repeats : String → ℕ → String → String → String → String → Type 0
 unfolding shown times
-Repeats s n v names w c = shown (header ++ (bytes s ++ times n (bytes v))) ≡ bytes names ++ (times n (bytes w) ++ (bytes "changed,spared,clipped,missing\n" ++ bytes c))
+Repeats s n v names w c = shown (header ++ (bytes s ++ times n (bytes v))) ≡ bytes names ++ (times n (bytes w) ++ (countsHeading ++ bytes c))
 
--- the header and s print o, and the counts c
+-- the header and s print o, the heading and the counts c
 unfoldable pub Lists : String → String → String → Type 0
 unfolding shown
-Lists s o c = shown (header ++ bytes s) ≡ bytes o ++ (bytes "changed,spared,clipped,missing\n" ++ bytes c)
+Lists s o c = shown (header ++ bytes s) ≡ bytes o ++ (countsHeading ++ bytes c)
 
 -- the header, s and n lines v are refused with the number d, a digit
 unfoldable pub Many : String → ℕ → String → String → Type 0

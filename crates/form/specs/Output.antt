@@ -72,8 +72,16 @@ column rows j = map (λ r. getD r j 0) rows
 unfoldable pub columns : ℕ → List (List ℕ) → List (List ℕ)
 columns n rows = map (column rows) (upTo 0 n)
 
+-- document 02 (a): "prints the two new columns, named risen and fallen, after missing"
+abbrev pub countsHeading : List ℕ
+countsHeading = bytes "changed,spared,clipped,missing,risen,fallen\n"
+
+-- the counts in the order of their columns
+abbrev pub countsInOrder : Counts → List ℕ
+countsInOrder c = c .changed-places ∷ c .spared-places ∷ c .clipped-places ∷ c .missing-places ∷ c .risen-places ∷ c .fallen-places ∷ []
+
 abbrev pub countsLine : Counts → List ℕ
-countsLine c = line (map decimal (c .changed-places ∷ c .spared-places ∷ c .clipped-places ∷ c .missing-places ∷ []))
+countsLine c = line (map decimal (countsInOrder c))
 
 -- "then the counts, one line per series"; a refused call answers none, and nothing is printed then
 unfoldable pub countsLines : List AfterTrim → List ℕ
@@ -89,7 +97,7 @@ unfoldable pub output : Job → List ℕ
 output j =
     line (j .names)
     ++ (valueLines (columns (length (j .rows)) (map (λ a. a .readings) (trimmedSeries j)))
-    ++ (bytes "changed,spared,clipped,missing\n"
+    ++ (countsHeading
     ++ countsLines (trimmedSeries j)))
 
 -- "A refusal prints only `refused,` with its number and a newline."

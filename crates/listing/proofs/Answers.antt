@@ -5,7 +5,7 @@ use mathlib.Core.Path.{_≡_, sym, ap, _∙_, subst}
 use mathlib.Core.List.{List, [], _∷_, map}
 use lib.ListN.{length}
 use Rattle.meaning.specs.Calls.{leaving}
-use Rattle.form.specs.Form.{line}
+use Rattle.form.specs.Form.{All, line}
 use Rattle.form.specs.Output.{countsLine, decimal}
 use Rattle.text_out.specs.Places.{paste}
 use Rattle.text_out.proofs.Paste.{paste-none}
@@ -18,17 +18,20 @@ use Rattle.listing.specs.Jobs.{Small}
 abbrev pub printedOf : Answer → List ℕ
 printedOf r = leaving (answerOf r) countsLine []
 
-module _ (r : Answer) (a b c d : ℕ) (e : r ≡ variants.Counts a b c d) where
-  pub small-counts : Small (answerOf r) → (a < 1000) × (b < 1000) × (c < 1000) × (d < 1000)
+module _ (r : Answer) (changed spared clipped missing risen fallen : ℕ) (e : r ≡ variants.Counts changed spared clipped missing risen fallen) where
+  abbrev numbers : List ℕ
+  numbers = changed ∷ spared ∷ clipped ∷ missing ∷ risen ∷ fallen ∷ []
+
+  pub small-counts : Small (answerOf r) → All (λ n. n < 1000) numbers
   unfolding answerOf
   small-counts s = subst (λ (x : Answer). Small (answerOf x)) e s
 
-  counts-printed : line (map decimal (a ∷ b ∷ c ∷ d ∷ [])) ≡ printedOf r
+  counts-printed : line (map decimal numbers) ≡ printedOf r
   unfolding answerOf leaving
   counts-printed = ap printedOf (sym e)
 
   pub answer-counts : (l : List ℕ) (at : ℕ) (m : List ℕ) (p : ℕ)
-      → (p ≡ at + length (line (map decimal (a ∷ b ∷ c ∷ d ∷ [])))) × (m ≡ paste l at (line (map decimal (a ∷ b ∷ c ∷ d ∷ []))))
+      → (p ≡ at + length (line (map decimal numbers))) × (m ≡ paste l at (line (map decimal numbers)))
       → (p ≡ at + length (printedOf r)) × (m ≡ paste l at (printedOf r))
   answer-counts l at m p f = (f .0 ∙ ap (λ (y : List ℕ). at + length y) counts-printed, f .1 ∙ ap (paste l at) counts-printed)
 

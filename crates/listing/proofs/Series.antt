@@ -13,14 +13,12 @@ use lib.ListN.{length, take, drop, length-append, length-take}
 use Rattle.meaning.specs.Methods.{Method, Counts, placeAfter, countFrom, counts}
 use Rattle.meaning.specs.Questions.{Outcome, refused, accepted, trimQuestions}
 use Rattle.meaning.specs.Calls.{AfterTrim, answering, leaving, trim, trimSingles}
-use Rattle.form.specs.Form.{line}
-use Rattle.form.specs.Output.{upTo, decimal, countsLine, countsLines}
+use Rattle.form.specs.Output.{upTo, countsInOrder, countsLine, countsLines}
 use Rattle.parts.proofs.Back.{back, length-back, back-own, back-before, back-after}
 use Rattle.text_in.specs.Places.{areaSeries}
 use Rattle.text_out.specs.Places.{paste}
 use Rattle.text_out.proofs.Paste.{paste-none}
-use Rattle.text_out.proofs.FieldLaws.{decimal-short}
-use Rattle.text_out.proofs.LaidLaws.{Laid, laid-more, laid-long}
+use Rattle.text_out.proofs.LaidLaws.{Laid, laid-more, laid-long, counts-short}
 use Rattle.trim.specs.declared.Answer.{Answer}
 use Rattle.trim.specs.Answers.{answerOf}
 use Rattle.listing.specs.Jobs.{areaTrimmed, leftReadings, Small}
@@ -47,24 +45,16 @@ trim-small method setting mark ws h = go (trimQuestions 23 8 method setting)
 
     go : (o : Outcome Method) → Small (answering o (λ x. counts 23 8 x mark ws))
     go (refused n) = tt
-    go (accepted x) = (few _, few _, few _, few _)
+    go (accepted x) = (few _, (few _, (few _, (few _, (few _, (few _, tt))))))
 
--- four counts of three digits, each with a byte after it
-printed-short : (r : Answer) → Small (answerOf r) → length (printedOf r) ≤ 16
+-- six counts of three digits, each with a byte after it
+printed-short : (r : Answer) → Small (answerOf r) → length (printedOf r) ≤ 24
 unfolding leaving
 printed-short r s = go (answerOf r) s
   where
-    four : (a b c d : ℕ) → a < 1000 → b < 1000 → c < 1000 → d < 1000 → length (line (map decimal (a ∷ b ∷ c ∷ d ∷ []))) ≤ 16
-    four a b c d h i j k =
-        let p = decimal-short a h in
-        let q = decimal-short b i in
-        let t = decimal-short c j in
-        let u = decimal-short d k in
-        simp length-append (omega arith)
-
-    go : (o : Outcome Counts) → Small o → length (leaving o countsLine []) ≤ 16
+    go : (o : Outcome Counts) → Small o → length (leaving o countsLine []) ≤ 24
     go (refused n) s = omega arith
-    go (accepted c) s = four _ _ _ _ (s .0) (s .1) (s .2) (s .3)
+    go (accepted c) s = counts-short (countsInOrder c) s
 
 -- ---- the loop
 
@@ -82,15 +72,15 @@ module _ (w₀ : List ℕ) (n m method : ℕ) (setting : ℤ) (mark : ℕ) (cs�
     pub most : n ≤ 8
     pub lines : m ≤ 512
     pub long : length w ≡ 4096
-    pub space : length cs₀ ≡ 128
+    pub space : length cs₀ ≡ 192
     pub done : (k : ℕ) → k < j → series m w k ≡ trimmedAt k .readings
     pub left : (k : ℕ) → j ≤ k → series m w k ≡ series m w₀ k
     pub text : List ℕ
-    pub short : length text ≤ 16 * j
+    pub short : length text ≤ 24 * j
     pub laid : Laid cs₀ 0 text cs p
     pub same : text ++ countsLines (map (trimSingles method setting mark) (map (series m w₀) (upTo j (n - j)))) ≡ countsLines (areaTrimmed w₀ n m method setting mark)
 
-  pub series-start : n ≤ 8 → m ≤ 512 → length w₀ ≡ 4096 → length cs₀ ≡ 128 → SeriesTurn w₀ cs₀ 0 0
+  pub series-start : n ≤ 8 → m ≤ 512 → length w₀ ≡ 4096 → length cs₀ ≡ 192 → SeriesTurn w₀ cs₀ 0 0
   series-start h g l s = record {
     low = omega arith;
     most = h;
@@ -109,7 +99,7 @@ module _ (w₀ : List ℕ) (n m method : ℕ) (setting : ℤ) (mark : ℕ) (cs�
     pub series-room : 512 * j + m ≤ length w
     series-room = let a = x .most in let b = x .lines in let c = x .long in omega arith
 
-    pub answer-room : p + 16 ≤ length cs
+    pub answer-room : p + 24 ≤ length cs
     answer-room =
         let a = x .most in
         let b = x .short in
@@ -196,7 +186,7 @@ module _ (w₀ : List ℕ) (n m method : ℕ) (setting : ℤ) (mark : ℕ) (cs�
       → (areaSeries w n m ≡ leftReadings (areaTrimmed w₀ n m method setting mark))
       × (p ≡ length (countsLines (areaTrimmed w₀ n m method setting mark)))
       × (cs ≡ paste cs₀ 0 (countsLines (areaTrimmed w₀ n m method setting mark)))
-      × (p ≤ 16 * n)
+      × (p ≤ 24 * n)
   unfolding countsLines
   all-trimmed w cs j p x h =
       let b = x .low in
@@ -216,12 +206,12 @@ module _ (w₀ : List ℕ) (n m method : ℕ) (setting : ℤ) (mark : ℕ) (cs�
       → (areaSeries w n m ≡ leftReadings (areaTrimmed w₀ n m method z mark))
       × (p ≡ length (countsLines (areaTrimmed w₀ n m method z mark)))
       × (cs ≡ paste cs₀ 0 (countsLines (areaTrimmed w₀ n m method z mark)))
-      × (p ≤ 16 * n)
+      × (p ≤ 24 * n)
   series-done w cs j p x h z e =
       subst
       (λ (y : ℤ). (areaSeries w n m ≡ leftReadings (areaTrimmed w₀ n m method y mark))
       × (p ≡ length (countsLines (areaTrimmed w₀ n m method y mark)))
       × (cs ≡ paste cs₀ 0 (countsLines (areaTrimmed w₀ n m method y mark)))
-      × (p ≤ 16 * n))
+      × (p ≤ 24 * n))
       e
       (all-trimmed w cs j p x h)

@@ -11,9 +11,9 @@ use lib.ListN.{length, take, drop, length-append, length-take}
 use lib.Seq.{take-at}
 use Rattle.meaning.specs.Questions.{Outcome, refused, trimQuestions, settingInRange}
 use Rattle.meaning.specs.Calls.{answering, trimSingles}
-use Rattle.form.specs.Form.{Job, All, Run, Valid, isLetter, line, after, bytes, valueLines}
+use Rattle.form.specs.Form.{Job, All, Run, Valid, isLetter, line, after, valueLines}
 use Rattle.form.specs.Parse.{Got}
-use Rattle.form.specs.Output.{methodNumber, columns, countsLines, trimmedSeries, output, printed, jobMethod, jobSetting, jobOutcome, readOutcome, listed}
+use Rattle.form.specs.Output.{methodNumber, columns, countsHeading, countsLines, trimmedSeries, output, printed, jobMethod, jobSetting, jobOutcome, readOutcome, listed}
 use Rattle.form.proofs.Reading.{sound}
 use Rattle.text_in.specs.declared.Reading.{Reading}
 use Rattle.text_in.specs.declared.Reading.the-variants.{Good, Wrong}
@@ -33,7 +33,7 @@ names-line (w ∷ ws) e =
     omega arith
 
 -- the counts' lines of at most 8 series
-pub counts-few : (k n : ℕ) (l : List ℕ) → k ≤ 16 * n → n ≤ 8 → length (take k l) ≤ 128
+pub counts-few : (k n : ℕ) (l : List ℕ) → k ≤ 24 * n → n ≤ 8 → length (take k l) ≤ 192
 counts-few k n l h g = simp length-take (omega arith)
 
 -- what is listed for a text without the form
@@ -108,9 +108,9 @@ module _ (t w : List ℕ) (letters : ℕ) (z : ℤ) (mark names first count line
     unfolding output jobOutcome answering printed
     accepted-listed n e h w' cs₀ cs k a b c =
         ap (λ (l : List ℕ). pieces l w' count lines (take k cs)) (x .named)
-        ∙ ap (λ (l : List (List ℕ)). line (x .series) ++ (valueLines (columns lines l) ++ (bytes "changed,spared,clipped,missing\n" ++ take k cs))) (a ∙ ap leftReadings series-same)
-        ∙ ap (λ (i : ℕ). line (x .series) ++ (valueLines (columns i (leftReadings (trimmedSeries job))) ++ (bytes "changed,spared,clipped,missing\n" ++ take k cs))) (sym (x .lined))
-        ∙ ap (λ (l : List ℕ). line (x .series) ++ (valueLines (columns (length (x .rows)) (leftReadings (trimmedSeries job))) ++ (bytes "changed,spared,clipped,missing\n" ++ l))) counts-same
+        ∙ ap (λ (l : List (List ℕ)). line (x .series) ++ (valueLines (columns lines l) ++ (countsHeading ++ take k cs))) (a ∙ ap leftReadings series-same)
+        ∙ ap (λ (i : ℕ). line (x .series) ++ (valueLines (columns i (leftReadings (trimmedSeries job))) ++ (countsHeading ++ take k cs))) (sym (x .lined))
+        ∙ ap (λ (l : List ℕ). line (x .series) ++ (valueLines (columns (length (x .rows)) (leftReadings (trimmedSeries job))) ++ (countsHeading ++ l))) counts-same
         ∙ ap (λ (o : Outcome _). printed (answering o (λ _. output job))) (sym (accepted-is 23 8 method set (sym e ∙ h)) ∙ questions-same)
         ∙ job-listed
       where

@@ -5,8 +5,8 @@ use lib.IntN.{ℤ}
 use Rattle.meaning.specs.Methods.{Counts}
 use Rattle.meaning.specs.Questions.{Outcome, refused, accepted}
 use Rattle.meaning.specs.Calls.{AfterTrim, trimSingles}
-use Rattle.form.specs.Form.{bytes, valueLines}
-use Rattle.form.specs.Output.{columns}
+use Rattle.form.specs.Form.{All, valueLines}
+use Rattle.form.specs.Output.{columns, countsHeading, countsInOrder}
 use Rattle.text_in.specs.Places.{areaSeries}
 
 -- each of n series of m readings in the work area w, trimmed as one array
@@ -16,11 +16,11 @@ areaTrimmed w n m method setting mark = map (trimSingles method setting mark) (a
 abbrev pub leftReadings : List AfterTrim → List (List ℕ)
 leftReadings l = map (λ a. a .readings) l
 
--- four counts of at most three digits, or none
+-- six counts of at most three digits, or none
 abbrev pub Small : Outcome Counts → Type 0
 Small (refused n) = Unit {0}
-Small (accepted c) = (c .changed-places < 1000) × (c .spared-places < 1000) × (c .clipped-places < 1000) × (c .missing-places < 1000)
+Small (accepted c) = All (λ n. n < 1000) (countsInOrder c)
 
--- the names' line, the lines of values in the work area, the counts' header, and the counts' lines
+-- the names' line, the lines of values in the work area, the counts' heading, and the counts' lines
 abbrev pub pieces : List ℕ → List ℕ → ℕ → ℕ → List ℕ → List ℕ
-pieces names w n m counts = names ++ (valueLines (columns m (areaSeries w n m)) ++ (bytes "changed,spared,clipped,missing\n" ++ counts))
+pieces names w n m counts = names ++ (valueLines (columns m (areaSeries w n m)) ++ (countsHeading ++ counts))

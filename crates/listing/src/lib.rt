@@ -10,10 +10,10 @@ ghost use Rattle.text_out.specs.Places.{paste};
 ghost use Rattle.trim.specs.Answers.{answerOf};
 ghost use Rattle.listing.specs.Jobs.{areaTrimmed, leftReadings, Small, pieces};
 
-// The line of a trimmed series' four counts from `at` on; the place after it. A refused trim has none.
+// The line of a trimmed series' six counts from `at` on; the place after it. A refused trim has none.
 fn put_answer(out: &mut [u8], at: usize, answer: trim::Answer) -> usize
     requires { ⌜ Small (answerOf answer) ⌝ }
-    requires { ⌜ at + 16 ≤ length (now out) ⌝ }
+    requires { ⌜ at + 24 ≤ length (now out) ⌝ }
     ensures { λ r. ⌜ r ≡ at + length (leaving (answerOf answer) countsLine []) ⌝ }
     ensures { λ _. ⌜ now (out .exit) ≡ paste (now (out .entry)) at (leaving (answerOf answer) countsLine []) ⌝ }
 {
@@ -23,14 +23,19 @@ fn put_answer(out: &mut [u8], at: usize, answer: trim::Answer) -> usize
             spared,
             clipped,
             missing,
-        } => text_out::put_counts(
-            out,
-            at,
-            changed as usize,
-            spared as usize,
-            clipped as usize,
-            missing as usize,
-        ),
+            risen,
+            fallen,
+        } => {
+            let counts = [
+                changed as usize,
+                spared as usize,
+                clipped as usize,
+                missing as usize,
+                risen as usize,
+                fallen as usize,
+            ];
+            text_out::put_counts(out, at, &counts)
+        }
         trim::Answer::Refused(_) => at,
     }
 }
@@ -46,11 +51,11 @@ fn trim_series(
     mark: u32,
     counts: &mut [u8],
 ) -> usize
-    requires { ⌜ (count ≤ 8) × (lines ≤ 512) × (length (now work) ≡ 4096) × (length (now counts) ≡ 128) ⌝ }
+    requires { ⌜ (count ≤ 8) × (lines ≤ 512) × (length (now work) ≡ 4096) × (length (now counts) ≡ 192) ⌝ }
     ensures work { λ _. ⌜ areaSeries (now (work .exit)) count lines ≡ leftReadings (areaTrimmed (now (work .entry)) count lines method setting mark) ⌝ }
     ensures answer { λ r. ⌜ r ≡ length (countsLines (areaTrimmed (now (work .entry)) count lines method setting mark)) ⌝ }
     ensures counts { λ _. ⌜ now (counts .exit) ≡ paste (now (counts .entry)) 0 (countsLines (areaTrimmed (now (work .entry)) count lines method setting mark)) ⌝ }
-    ensures short { λ r. ⌜ r ≤ 16 * count ⌝ }
+    ensures short { λ r. ⌜ r ≤ 24 * count ⌝ }
 {
     let mut j: usize = 0;
     let mut p: usize = 0;
@@ -74,13 +79,13 @@ fn put_output(
     counts: &[u8],
 ) -> usize
     requires { ⌜ (count ≤ 8) × (lines ≤ 512) × (length (now work) ≡ 4096) × (length (now out) ≡ 65536) ⌝ }
-    requires { ⌜ (length (now names) ≤ 136) × (length (now counts) ≤ 128) ⌝ }
+    requires { ⌜ (length (now names) ≤ 136) × (length (now counts) ≤ 192) ⌝ }
     ensures { λ r. ⌜ r ≡ length (pieces (now (names .entry)) (now (work .entry)) count lines (now (counts .entry))) ⌝ }
     ensures { λ _. ⌜ now (out .exit) ≡ paste (now (out .entry)) 0 (pieces (now (names .entry)) (now (work .entry)) count lines (now (counts .entry))) ⌝ }
 {
     let p = text_out::put_bytes(out, 0, names);
     let q = text_out::put_lines(out, p, count, lines, work);
-    let r = text_out::put_bytes(out, q, b"changed,spared,clipped,missing\n");
+    let r = text_out::put_bytes(out, q, b"changed,spared,clipped,missing,risen,fallen\n");
     text_out::put_bytes(out, r, counts)
 }
 
@@ -106,7 +111,7 @@ pub fn listing(input: &[u8], out: &mut [u8; 65536]) -> usize
             if asked.refusal != 0 {
                 return text_out::put_refusal(out, asked.refusal as usize);
             }
-            let mut counts = [0u8; 128];
+            let mut counts = [0u8; 192];
             let n = trim_series(&mut work, count, lines, method, setting, mark, &mut counts);
             put_output(out, &input[names..first], &work, count, lines, &counts[..n])
         }

@@ -34,7 +34,7 @@ module _ (F X k mark place w : ℕ) where
       go (yes e) = rw (eq-eqb method 2 e) (groom-at F X method k mark e (constants F k) refl place w refl)
       go (no d) = rw (ne-eqb method 2 d) (tail-by F X k mark w method h d ∙ placeless F X method k mark d place w)
 
-  tails-are : (method : ℕ) → method < 4 → settledFrom mark w (tailWord F X (constants F k) (addFor method (constants F k) place) w) 0 ≡ inForce F X (methodBy method k) mark place w
+  tails-are : (method : ℕ) → method < 4 → settledFrom F X mark w (tailWord F X (constants F k) (addFor method (constants F k) place) w) 0 ≡ inForce F X (methodBy method k) mark place w
   unfolding constants
   tails-are method h =
       settled-tail F X (constants F k) tail-of mark w (addFor method (constants F k) place) ∙ filled method h ∙ settled-is F X (methodBy method k) (ready-low method k h) mark place w
@@ -44,13 +44,13 @@ module _ (F X k mark place w : ℕ) where
   unfolding settledBy wantedBy newMagnitude
   round-is = settled-is F X (round k) tt mark place w
 
-  rounds-are : 1 ≤ F - k → w < 2 ^ (F + X + 1) → settledFrom mark w (roundWord F X (constants F k) w) (roundOver F X (constants F k) w) ≡ inForce F X (round k) mark place w
+  rounds-are : 1 ≤ F - k → w < 2 ^ (F + X + 1) → settledFrom F X mark w (roundWord F X (constants F k) w) (roundOver F X (constants F k) w) ≡ inForce F X (round k) mark place w
   unfolding constants
   rounds-are some short =
       let keep : F - (F - k) ≡ k = omega arith in
       settled-round F X (constants F k) tail-of mark w some short ∙ ap (λ (n : ℕ). settledBy F X (round n) mark 0 w) keep ∙ round-is
 
-  untailed-is : k ≡ F → settledFrom mark w (tailWord F X (constants F k) 0 w) 0 ≡ inForce F X (round k) mark place w
+  untailed-is : k ≡ F → settledFrom F X mark w (tailWord F X (constants F k) 0 w) 0 ≡ inForce F X (round k) mark place w
   unfolding constants
   untailed-is e =
       let none : F - k ≡ 0 = omega arith in

@@ -1,26 +1,35 @@
 -- What one reading counts for is 0 or 1 in each count; and the sums over an array, whatever counts they hold.
 use mathlib.Core.Path.{_≡_}
+use mathlib.Core.Bool.{cond}
 use Prim.Native.Nat.{ℕ, _+_, _≤_, zero-le}
 use native.Mathlib.Nat.{le-refl, add-zero, zero-add, add-assoc}
 use native.Mathlib.Omega.{arith}
-use lib.Dec.{eqb}
-use Rattle.meaning.specs.Readings.{magnitude}
+use lib.Dec.{eqb, ltb}
+use Rattle.meaning.specs.Readings.{sign, magnitude}
 use Rattle.meaning.specs.Methods.{Method, clips}
-use Rattle.reading.specs.Left.{Tally, unlessMissing, leftFrom, settledFrom, wantedBy, over, settledBy, settledTail}
+use Rattle.reading.specs.Left.{Tally, unlessMissing, leftFrom, roseFrom, settledFrom, wantedBy, over, settledBy, settledTail}
 use Rattle.reading.proofs.Words.{cond-le}
 use Rattle.loops.specs.Tallies.{none, plus, Few}
 
-pub one-from : (mark x z over : ℕ) → over ≤ 1 → Few (settledFrom mark x z over .tally) 1
-unfolding settledFrom
-one-from mark x z over h =
-    record {
-      changed-few = cond-le (eqb (leftFrom mark x z) x) 0 1 1 zero-le (le-refl 1);
-      marked-few = cond-le (eqb (unlessMissing mark x z) mark) 1 0 1 (le-refl 1) zero-le;
-      clipped-few = cond-le (eqb (leftFrom mark x z) x) 0 over 1 zero-le h;
-      missing-few = cond-le (eqb x mark) 1 0 1 (le-refl 1) zero-le;
-    }
-
 module _ (F X : ℕ) where
+  rose-few : (x p : ℕ) → roseFrom F X x p ≤ 1
+  unfolding roseFrom
+  rose-few x p =
+      let grows = ltb (magnitude F X x) (magnitude F X p) in
+      cond-le (eqb p x) 0 _ 1 zero-le
+      (cond-le (eqb (sign F X p) 0) (cond grows 1 0) (cond grows 0 1) 1 (cond-le grows 1 0 1 (le-refl 1) zero-le) (cond-le grows 0 1 1 zero-le (le-refl 1)))
+
+  pub one-from : (mark x z over : ℕ) → over ≤ 1 → Few (settledFrom F X mark x z over .tally) 1
+  unfolding settledFrom
+  one-from mark x z over h =
+      record {
+        changed-few = cond-le (eqb (leftFrom mark x z) x) 0 1 1 zero-le (le-refl 1);
+        marked-few = cond-le (eqb (unlessMissing mark x z) mark) 1 0 1 (le-refl 1) zero-le;
+        clipped-few = cond-le (eqb (leftFrom mark x z) x) 0 over 1 zero-le h;
+        missing-few = cond-le (eqb x mark) 1 0 1 (le-refl 1) zero-le;
+        risen-few = rose-few x (leftFrom mark x z);
+      }
+
   pub one-by : (x : Method) (mark place w : ℕ) → Few (settledBy F X x mark place w .tally) 1
   unfolding settledBy over
   one-by x mark place w = one-from mark w (wantedBy F X x place w) (over F X x w) (cond-le (clips F X x (magnitude F X w)) 1 0 1 (le-refl 1) zero-le)
@@ -30,14 +39,14 @@ module _ (F X : ℕ) where
   one-tail t add mark w = one-from mark w _ 0 zero-le
 
 pub few-none : Few none 0
-few-none = record { changed-few = zero-le; marked-few = zero-le; clipped-few = zero-le; missing-few = zero-le }
+few-none = record { changed-few = zero-le; marked-few = zero-le; clipped-few = zero-le; missing-few = zero-le; risen-few = zero-le }
 
 pub few-wider : (t : Tally) (m n : ℕ) → m ≤ n → Few t m → Few t n
-few-wider t m n l h = record { changed-few = omega arith; marked-few = omega arith; clipped-few = omega arith; missing-few = omega arith }
+few-wider t m n l h = record { changed-few = omega arith; marked-few = omega arith; clipped-few = omega arith; missing-few = omega arith; risen-few = omega arith }
 
 pub few-plus : (s t : Tally) (m n : ℕ) → Few s m → Few t n → Few (plus s t) (m + n)
 unfolding plus
-few-plus s t m n h k = record { changed-few = omega arith; marked-few = omega arith; clipped-few = omega arith; missing-few = omega arith }
+few-plus s t m n h k = record { changed-few = omega arith; marked-few = omega arith; clipped-few = omega arith; missing-few = omega arith; risen-few = omega arith }
 
 pub plus-none : (t : Tally) → plus t none ≡ t
 unfolding plus

@@ -10,6 +10,7 @@ pub struct Sums {
     pub marked: u32,
     pub clipped: u32,
     pub missing: u32,
+    pub risen: u32,
 }
 
 impl Sums {
@@ -22,6 +23,7 @@ impl Sums {
             marked: 0,
             clipped: 0,
             missing: 0,
+            risen: 0,
         }
     }
 
@@ -35,16 +37,19 @@ impl Sums {
             marked: self.marked + one.marked,
             clipped: self.clipped + one.clipped,
             missing: self.missing + one.missing,
+            risen: self.risen + one.risen,
         }
     }
 }
 
-// The sums over a whole array: places changed, places where the reading or its result is the mark, places clipped, places missing.
+// The sums over a whole array: places changed, places where the reading or its result is the mark, places clipped, places missing, places where the
+// exact value rose.
 pub struct Totals {
     pub changed: u64,
     pub marked: u64,
     pub clipped: u64,
     pub missing: u64,
+    pub risen: u64,
 }
 
 impl Totals {
@@ -57,6 +62,7 @@ impl Totals {
             marked: 0,
             clipped: 0,
             missing: 0,
+            risen: 0,
         }
     }
 
@@ -70,6 +76,7 @@ impl Totals {
             marked: self.marked + reading.marked,
             clipped: self.clipped + reading.clipped,
             missing: self.missing + reading.missing,
+            risen: self.risen + reading.risen,
         }
     }
 
@@ -83,6 +90,7 @@ impl Totals {
             marked: self.marked + wide(part.marked),
             clipped: self.clipped + wide(part.clipped),
             missing: self.missing + wide(part.missing),
+            risen: self.risen + wide(part.risen),
         }
     }
 }

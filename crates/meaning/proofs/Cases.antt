@@ -21,7 +21,7 @@ pub record Marked : Type 0 where
   -- P5 round 0 of 3FC00000 and of 40400000: both 40000000 (ties).
   P5 : (after (round 0 ∷ []) 0x3FC00000 ≡ 0x40000000) × (after (round 0 ∷ []) 0x40400000 ≡ 0x40000000)
   -- P6 round 7 of 7F7FFFFF: 7F7F0000, clipped.
-  P6 : (after (round 7 ∷ []) 0x7F7FFFFF ≡ 0x7F7F0000) × (answer 23 8 0x7CF00000 (round 7) (0x7F7FFFFF ∷ []) ≡ counting 1 0 1 0)
+  P6 : (after (round 7 ∷ []) 0x7F7FFFFF ≡ 0x7F7F0000) × (answer 23 8 0x7CF00000 (round 7) (0x7F7FFFFF ∷ []) ≡ counting 1 0 1 0 0 1)
   -- P7 absolute 0 of 3F000000, BF000000, 3FC00000: 00000000, 80000000, 40000000.
   P7 : (after (absolute 0 ∷ []) 0x3F000000 ≡ 0x00000000) × (after (absolute 0 ∷ []) 0xBF000000 ≡ 0x80000000) × (after (absolute 0 ∷ []) 0x3FC00000 ≡ 0x40000000)
   -- P8 digits 1 and 3 of pi: 40600000, 40494000 (document 002's table).

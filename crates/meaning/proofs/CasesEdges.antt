@@ -44,36 +44,36 @@ pub record Edges : Type 0 where
   halfshave-double : afterDouble (halfshave 7 ∷ []) pi ≡ 0x40093000_00000000 ∷ []
   round-double : afterDouble (round 7 ∷ []) pi ≡ 0x40092000_00000000 ∷ []
   kept-double : afterDouble (round 52 ∷ []) pi ≡ pi ∷ []
-  clip-double : (afterDouble (round 7 ∷ []) 0xFFEFFFFF_FFFFFFFF ≡ 0xFFEFE000_00000000 ∷ []) × (answer 52 11 0 (round 7) (0xFFEFFFFF_FFFFFFFF ∷ []) ≡ counting 1 0 1 0)
+  clip-double : (afterDouble (round 7 ∷ []) 0xFFEFFFFF_FFFFFFFF ≡ 0xFFEFE000_00000000 ∷ []) × (answer 52 11 0 (round 7) (0xFFEFFFFF_FFFFFFFF ∷ []) ≡ counting 1 0 1 0 1 0)
   absolute-double : (afterDouble (absolute 0 ∷ []) pi ≡ 0x40080000_00000000 ∷ []) × (afterDouble (absolute 0 ∷ []) 0xBFE00000_00000000 ≡ 0x80000000_00000000 ∷ [])
   least-double : afterDouble (call 5 (negℤ (pos 1074)) ∷ []) 0x00000000_00000001 ≡ 0x00000000_00000001 ∷ []
   largest-double : afterDouble (absolute 1000 ∷ []) 0x7FEFFFFF_FFFFFFFF ≡ 0x7FEFFFFF_E0000000 ∷ []
   digits-double : afterDouble (digits 3 ∷ []) pi ≡ 0x40092800_00000000 ∷ []
   -- ---- a tie whose even side lies beyond the largest finite value clips, and is counted
-  tie-clips : (after (round 7 ∷ []) 0x7F7F8000 ≡ 0x7F7F0000) × (answer 23 8 0x7CF00000 (round 7) (0x7F7F8000 ∷ []) ≡ counting 1 0 1 0)
-  absolute-clips : (after (absolute 127 ∷ []) 0x7F400000 ≡ 0x7F000000) × (answer 23 8 0x7CF00000 (absolute 127) (0x7F400000 ∷ []) ≡ counting 1 0 1 0)
+  tie-clips : (after (round 7 ∷ []) 0x7F7F8000 ≡ 0x7F7F0000) × (answer 23 8 0x7CF00000 (round 7) (0x7F7F8000 ∷ []) ≡ counting 1 0 1 0 0 1)
+  absolute-clips : (after (absolute 127 ∷ []) 0x7F400000 ≡ 0x7F000000) × (answer 23 8 0x7CF00000 (absolute 127) (0x7F400000 ∷ []) ≡ counting 1 0 1 0 0 1)
   -- ---- but round 0 of 7F400000 goes to the even 7F000000 below it, and doesn't clip
-  tie-stays : (after (round 0 ∷ []) 0x7F400000 ≡ 0x7F000000) × (answer 23 8 0x7CF00000 (round 0) (0x7F400000 ∷ []) ≡ counting 1 0 0 0)
+  tie-stays : (after (round 0 ∷ []) 0x7F400000 ≡ 0x7F000000) × (answer 23 8 0x7CF00000 (round 0) (0x7F400000 ∷ []) ≡ counting 1 0 0 0 0 1)
   -- ---- and the largest finite value, which is a multiple of the least spacing, stays and doesn't clip
-  largest-stays : answer 23 8 0x7CF00000 (call 5 (negℤ (pos 149))) (0x7F7FFFFF ∷ []) ≡ counting 0 0 0 0
+  largest-stays : answer 23 8 0x7CF00000 (call 5 (negℤ (pos 149))) (0x7F7FFFFF ∷ []) ≡ counting 0 0 0 0 0 0
   -- ---- clip comes before spare: the old pattern, counted as spared alone
-  clip-spare : (singles 0x7F7F0000 (round 7 ∷ []) (0x7F7FFFFF ∷ []) ≡ 0x7F7FFFFF ∷ []) × (answer 23 8 0x7F7F0000 (round 7) (0x7F7FFFFF ∷ []) ≡ counting 0 1 0 0)
+  clip-spare : (singles 0x7F7F0000 (round 7 ∷ []) (0x7F7FFFFF ∷ []) ≡ 0x7F7FFFFF ∷ []) × (answer 23 8 0x7F7F0000 (round 7) (0x7F7FFFFF ∷ []) ≡ counting 0 1 0 0 0 0)
   -- ---- spare and missing go by bits: with the mark 00000000, 0.25 is spared, -0.25 becomes -0, and -0 is present
   by-bits :
       (singles 0 (absolute 0 ∷ []) (0x3E800000 ∷ 0xBE800000 ∷ 0x80000000 ∷ 0 ∷ []) ≡ 0x3E800000 ∷ 0x80000000 ∷ 0x80000000 ∷ 0 ∷ [])
-      × (answer 23 8 0 (absolute 0) (0x3E800000 ∷ 0xBE800000 ∷ 0x80000000 ∷ 0 ∷ []) ≡ counting 1 1 0 1)
+      × (answer 23 8 0 (absolute 0) (0x3E800000 ∷ 0xBE800000 ∷ 0x80000000 ∷ 0 ∷ []) ≡ counting 1 1 0 1 1 0)
   -- ---- document 01's listing: both series of round 7
-  rain : (singles 0x7CF00000 (round 7 ∷ []) (0x40490FDB ∷ 0x7CF00001 ∷ []) ≡ 0x40490000 ∷ 0x7CF00001 ∷ []) × (answer 23 8 0x7CF00000 (round 7) (0x40490FDB ∷ 0x7CF00001 ∷ []) ≡ counting 1 1 0 0)
-  ozone : answer 23 8 0x7CF00000 (round 7) (0x7CF00000 ∷ 0x3F800000 ∷ []) ≡ counting 0 0 0 1
+  rain : (singles 0x7CF00000 (round 7 ∷ []) (0x40490FDB ∷ 0x7CF00001 ∷ []) ≡ 0x40490000 ∷ 0x7CF00001 ∷ []) × (answer 23 8 0x7CF00000 (round 7) (0x40490FDB ∷ 0x7CF00001 ∷ []) ≡ counting 1 1 0 0 0 1)
+  ozone : answer 23 8 0x7CF00000 (round 7) (0x7CF00000 ∷ 0x3F800000 ∷ []) ≡ counting 0 0 0 1 0 0
   -- ---- the unit: with 7 keep bits 2^16 spacings, at pi 1/64, which is 2^-6 or 2^(149-6) least spacings; with the absolute step 2^0 it is 1 anywhere
   unit-of-pi : unit 23 (Methods.round 7) 0x40490FDB ≡ 2 ^ 143
   unit-absolute : unit 23 (Methods.absolute 149) 0x40490FDB ≡ 2 ^ 149
   unit-subnormal : unit 23 (Methods.tail Methods.set 7) 0x00000001 ≡ 2 ^ 16
   -- ---- a NaN that isn't the mark, and an infinity, are untouched and counted nowhere, and they and missing readings count as places
-  untouched : (after (shave 0 ∷ []) 0x7FC12345 ≡ 0x7FC12345) × (answer 23 8 0x7CF00000 (shave 0) (0x7FC12345 ∷ 0xFF800000 ∷ []) ≡ counting 0 0 0 0)
+  untouched : (after (shave 0 ∷ []) 0x7FC12345 ≡ 0x7FC12345) × (answer 23 8 0x7CF00000 (shave 0) (0x7FC12345 ∷ 0xFF800000 ∷ []) ≡ counting 0 0 0 0 0 0)
   -- ---- a NaN that is the mark counts as missing; one whose bits a method would turn into the mark is untouched and not spared
-  nan-missing : answer 23 8 0x7FC00000 (round 7) (0x7FC00000 ∷ []) ≡ counting 0 0 0 1
-  nan-unspared : answer 23 8 0x7F800000 (shave 0) (0x7FC12345 ∷ []) ≡ counting 0 0 0 0
+  nan-missing : answer 23 8 0x7FC00000 (round 7) (0x7FC00000 ∷ []) ≡ counting 0 0 0 1 0 0
+  nan-unspared : answer 23 8 0x7F800000 (shave 0) (0x7FC12345 ∷ []) ≡ counting 0 0 0 0 0 0
   places : singles 0x7CF00000 (groom 7 ∷ []) (0x7F800000 ∷ 0x40490FDB ∷ 0x40490FDB ∷ 0x7CF00000 ∷ 0x40490FDB ∷ 0x40490FDB ∷ []) ≡ 0x7F800000 ∷ 0x4049FFFF ∷ 0x40490000 ∷ 0x7CF00000 ∷ 0x40490000 ∷ 0x4049FFFF ∷ []
   -- ---- a reading with the mark's magnitude and the other sign is present: -1.5 beside the mark 1.5
   mark-sign : singles 0x3FC00000 (absolute 0 ∷ []) (0xBFC00000 ∷ 0x3FC00000 ∷ []) ≡ 0xC0000000 ∷ 0x3FC00000 ∷ []
@@ -86,7 +86,7 @@ pub record Edges : Type 0 where
   -- ---- a refused call changes nothing and answers its number alone; the loader adds 2^32
   refused-call : (singles 0x7CF00000 (call 7 (pos 0) ∷ call 4 (negℤ (pos 1)) ∷ []) (0x40490FDB ∷ []) ≡ 0x40490FDB ∷ []) × (answer 23 8 0x7CF00000 (round 24) (0x40490FDB ∷ []) ≡ refused 2)
   loader-refused : (loads (call 7 (pos 9999)) 0 0x40490FDB ≡ 2 ^ 32 + 1) × (loads (digits 0) 0 0x40490FDB ≡ 2 ^ 32 + 2)
-  loader-places : (loads (groom 7) 4 0x40490FDB ≡ 0x40490000) × (loads (groom 7) 0xFFFFFFFF_FFFFFFFF 0x40490FDB ≡ 0x4049FFFF)
+  loader-places : (loads (groom 7) 4 0x40490FDB ≡ 0x4_40490000) × (loads (groom 7) 0xFFFFFFFF_FFFFFFFF 0x40490FDB ≡ 0x2_4049FFFF)
   -- ---- a zero in a summary is +0
   summary-zeros : (summed (0x80000000 ∷ 0 ∷ []) ≡ Flat 0) × (summed (0x80000000 ∷ []) ≡ Flat 0)
   summary-negative : summed (0xBF800000 ∷ 0x7CF00000 ∷ 0x80000000 ∷ []) ≡ Spread 0xBF800000 0

@@ -39,7 +39,7 @@ digits s = call 6 (pos s)
 
 -- what a list of calls leaves of an array
 unfoldable pub afterAll : ℕ → ℕ → ℕ → List Call → List ℕ → List ℕ
-unfolding Readings.exponentField Readings.fraction Readings.size Readings.spacingExp Readings.spacing Readings.encode Readings.sign Readings.magnitude Readings.pattern Readings.infinity Readings.finite Readings.magnitudeOf Readings.leastExp Readings.origin Readings.position Readings.distance Readings.missing Readings.present Methods.nearest Methods.shaved Methods.tailSet Methods.halfshaved Methods.tailChanged Methods.rounded Methods.digitsFrom Methods.digitCount Methods.multiple Methods.decade Methods.digitStep Methods.digitSize Methods.clips Methods.absoluteSize Methods.newMagnitude Methods.result Methods.trimmable Methods.spared Methods.trimmed Methods.changed Methods.clipped Methods.unit Methods.placeAfter Methods.trimFrom Methods.countFrom Methods.counts Layers.missingCode Layers.lastCode Layers.holds Layers.leastFrom Layers.runs Layers.layers Layers.plusZero Layers.smaller Layers.larger Layers.widened Layers.summary Layers.smallest Layers.span Layers.layerOf Layers.code Layers.codeMeaning Layers.packedLayers Layers.packedCodes Layers.nearestMagnitude Layers.nearestDouble Layers.unpackedCode Layers.unpackedCodes Questions.ask Questions.above Questions.all Questions.settingInRange Questions.methodOf Questions.trimQuestions Questions.isNan Questions.layerQuestions Questions.packQuestions Questions.unpackQuestions Calls.answering Calls.leaving Calls.trim Calls.loaderNumber Calls.loader Calls.storedExponent Calls.storedLayer Calls.pack Calls.unpack Calls.inTurn Calls.acceptedCalls Calls.largestUnit flatMap zipWith flatten
+unfolding Readings.exponentField Readings.fraction Readings.size Readings.spacingExp Readings.spacing Readings.encode Readings.sign Readings.magnitude Readings.pattern Readings.infinity Readings.finite Readings.magnitudeOf Readings.leastExp Readings.origin Readings.position Readings.distance Readings.missing Readings.present Methods.nearest Methods.shaved Methods.tailSet Methods.halfshaved Methods.tailChanged Methods.rounded Methods.digitsFrom Methods.digitCount Methods.multiple Methods.decade Methods.digitStep Methods.digitSize Methods.clips Methods.absoluteSize Methods.newMagnitude Methods.result Methods.trimmable Methods.spared Methods.trimmed Methods.changed Methods.clipped Methods.risen Methods.fallen Methods.unit Methods.placeAfter Methods.trimFrom Methods.countFrom Methods.counts Layers.missingCode Layers.lastCode Layers.holds Layers.leastFrom Layers.runs Layers.layers Layers.plusZero Layers.smaller Layers.larger Layers.widened Layers.summary Layers.smallest Layers.span Layers.layerOf Layers.code Layers.codeMeaning Layers.packedLayers Layers.packedCodes Layers.nearestMagnitude Layers.nearestDouble Layers.unpackedCode Layers.unpackedCodes Questions.ask Questions.above Questions.all Questions.settingInRange Questions.methodOf Questions.trimQuestions Questions.isNan Questions.layerQuestions Questions.packQuestions Questions.unpackQuestions Calls.answering Calls.leaving Calls.trim Calls.loaderNumber Calls.gain Calls.told Calls.loader Calls.storedExponent Calls.storedLayer Calls.pack Calls.unpack Calls.inTurn Calls.acceptedCalls Calls.largestUnit flatMap zipWith flatten
 afterAll F X mark cs ws = inTurn F X cs mark ws
 
 -- and of one single, with the mark 7CF00000
@@ -47,9 +47,9 @@ unfoldable pub after : List Call → ℕ → ℕ
 unfolding afterAll
 after cs w = getD (afterAll 23 8 0x7CF00000 cs (w ∷ [])) 0 0
 
--- what one call answers: changed, spared, clipped, missing
-abbrev pub counting : ℕ → ℕ → ℕ → ℕ → Outcome Counts
-counting a b c d = accepted (record { changed-places = a; spared-places = b; clipped-places = c; missing-places = d })
+-- what one call answers: changed, spared, clipped, missing, risen, fallen
+abbrev pub counting : ℕ → ℕ → ℕ → ℕ → ℕ → ℕ → Outcome Counts
+counting a b c d e f = accepted (record { changed-places = a; spared-places = b; clipped-places = c; missing-places = d; risen-places = e; fallen-places = f })
 
 unfoldable pub answer : ℕ → ℕ → ℕ → Call → List ℕ → Outcome Counts
 unfolding afterAll

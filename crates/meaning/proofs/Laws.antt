@@ -1,8 +1,8 @@
 -- Laws that make the definitions believable, in document 01's words and order, for every width and for singles' layers. Most are proved in the other files; this is
 -- the page to read.
-use mathlib.Core.Path.{_≡_, refl, sym, _∙_, subst}
+use mathlib.Core.Path.{_≡_, refl, sym, _∙_}
 use mathlib.Core.Logic.{_≢_, _↔_, _⊎_, inl, inr}
-use mathlib.Core.Bool.{true}
+use mathlib.Core.Bool.{true, cond}
 use mathlib.Core.List.{List}
 use Prim.Native.Nat.{ℕ, suc, _+_, _-_, _*_, _/_, _^_, _≤_, _<_}
 use native.Mathlib.Nat.{not-le-of-lt, sub-le}
@@ -11,10 +11,11 @@ use native.Mathlib.Omega.{arith}
 use lib.IntN.{ℤ}
 use lib.ListN.{length, getD}
 use lib.Pow.{pow-pos}
-use Rattle.meaning.specs.Readings.{size, spacing, sign, magnitude, pattern, infinity, finite, magnitudeOf, distance}
-use Rattle.meaning.specs.Methods.{Method, tail, shave, round, absolute, unit, nearest, shaved, rounded, tailChanged, absoluteSize, decade, newMagnitude, trimmed}
+use Rattle.meaning.specs.Readings.{size, spacing, sign, magnitude, infinity, finite, magnitudeOf, distance}
+use Rattle.meaning.specs.Methods.{Method, tail, shave, round, absolute, unit, nearest, shaved, rounded, tailChanged, absoluteSize, decade, newMagnitude, trimmed, changed, risen, fallen, Counts}
 use Rattle.meaning.specs.Layers.{lastCode, missingCode, holds, span, summary, layerOf, code}
 use Rattle.meaning.specs.Questions.{accepted, trimQuestions}
+use Rattle.meaning.specs.Calls.{trim}
 use Rattle.meaning.proofs.Sizes.{size-mono, size-le}
 use Rattle.meaning.proofs.Patterns.{magnitudeOf-size, magnitudeOf-floor, below-finite, sign-one, pattern-fits, pattern-back}
 use Rattle.meaning.proofs.Nearest.{nearest-floor}
@@ -24,7 +25,8 @@ use Rattle.meaning.proofs.Rounding.{round-within, round-clipped}
 use Rattle.meaning.proofs.Absolute.{absolute-exact}
 use Rattle.meaning.proofs.Digits.{Decade, decade-rule}
 use Rattle.meaning.proofs.Accepted.{Ready, accepted-ready}
-use Rattle.meaning.proofs.OneReading.{trimmed-missing, trimmed-present, trimmed-other, Good, trimmed-good}
+use Rattle.meaning.proofs.OneReading.{trimmed-missing, trimmed-present, stays}
+use Rattle.meaning.proofs.Moves.{rose-or-fell, rises-plus, rises-minus, answer-sum}
 use Rattle.meaning.proofs.Packing.{Packable, layer-holds, layer-least, layer-codes, singles-held}
 
 pub record Laws (F X : ℕ) : Type 0 where
@@ -47,6 +49,16 @@ pub record Laws (F X : ℕ) : Type 0 where
   pub left-mark : (x : Method) (mark place w : ℕ) → (trimmed F X x mark place w ≡ mark) ↔ (w ≡ mark)
   pub left-finite : (method : ℕ) (setting : ℤ) (x : Method) → trimQuestions F X method setting ≡ accepted x
       → (mark place w : ℕ) → finite F X w ≡ true → finite F X (trimmed F X x mark place w) ≡ true
+  -- Document 02 (a): a reading rises where its magnitude grows and its sign is 0, or shrinks and its sign is 1; a changed one rises or falls, and never both; and
+  -- "Changed equals their sum".
+  pub rises-above : (method : ℕ) (setting : ℤ) (x : Method) → trimQuestions F X method setting ≡ accepted x
+      → (mark place w : ℕ) → sign F X w ≡ 0 → (risen F X x mark place w ≡ true) ↔ (magnitude F X w < magnitude F X (trimmed F X x mark place w))
+  pub rises-below : (method : ℕ) (setting : ℤ) (x : Method) → trimQuestions F X method setting ≡ accepted x
+      → (mark place w : ℕ) → sign F X w ≢ 0 → (risen F X x mark place w ≡ true) ↔ (magnitude F X (trimmed F X x mark place w) < magnitude F X w)
+  pub moves-once : (method : ℕ) (setting : ℤ) (x : Method) → trimQuestions F X method setting ≡ accepted x
+      → (mark place w : ℕ) → cond (changed F X x mark place w) 1 0 ≡ cond (risen F X x mark place w) 1 0 + cond (fallen F X x mark place w) 1 0
+  pub changed-sum : (method : ℕ) (setting : ℤ) (mark : ℕ) (ws : List ℕ) (c : Counts) → trim F X method setting mark ws .answer ≡ accepted c
+      → c .changed-places ≡ c .risen-places + c .fallen-places
 
 module _ (F X : ℕ) where
   order-both : (m n : ℕ) → (m < n) ↔ (size F m < size F n)
@@ -77,11 +89,6 @@ module _ (F X : ℕ) where
       go (yes f) (yes d) = inl (round-within F X k place m f ∙ rw d refl)
       go (yes f) (no d) = inr (round-within F X k place m f ∙ rw (up d) (omega arith))
 
-  -- a present finite reading stays one, with its sign
-  stays-good : (x : Method) → Ready x → (mark place w : ℕ) → w ≢ mark → magnitude F X w < infinity F X → Good F X (λ m. Unit {0}) mark (sign F X w) (trimmed F X x mark place w)
-  stays-good x r mark place w p f =
-      trimmed-good F X (λ m. Unit {0}) x r (λ place m h u. tt) mark place (sign F X w) w (record { here = p; below = f; signed = refl; holds = tt })
-
   mark-both : (x : Method) (mark place w : ℕ) → (trimmed F X x mark place w ≡ mark) ↔ (w ≡ mark)
   mark-both x mark place w = (λ h. back h (ℕ-discrete w mark), λ e. rw e (trimmed-missing F X x mark place))
     where
@@ -89,24 +96,13 @@ module _ (F X : ℕ) where
       back h (yes e) = e
       back h (no e) = absurd (trimmed-present F X x mark place w e h)
 
-  -- one that is not present and finite stays as it is
-  stays : (P : ℕ → Type 0) (x : Method) → Ready x → (mark place w : ℕ) → P w
-      → (w ≢ mark → magnitude F X w < infinity F X → Good F X (λ m. Unit {0}) mark (sign F X w) (trimmed F X x mark place w) → P (trimmed F X x mark place w))
-      → P (trimmed F X x mark place w)
-  stays P x r mark place w h k = go (ℕ-discrete w mark) (decLt (magnitude F X w) (infinity F X))
-    where
-      go : Dec (w ≡ mark) → Dec (magnitude F X w < infinity F X) → P (trimmed F X x mark place w)
-      go (yes e) f = subst P (sym (rw e (trimmed-missing F X x mark place))) h
-      go (no e) (no f) = subst P (sym (trimmed-other F X x mark place w f)) h
-      go (no e) (yes f) = k e f (stays-good x r mark place w e f)
-
   left-fits : (x : Method) → Ready x → (mark place w : ℕ) → w < 2 ^ suc (F + X) → trimmed F X x mark place w < 2 ^ suc (F + X)
   left-fits x r mark place w h =
-      stays (λ v. v < 2 ^ suc (F + X)) x r mark place w h (λ p f g.
+      stays F X (λ v. v < 2 ^ suc (F + X)) x r mark place w h (λ p f g.
       rw (← pattern-back F X (trimmed F X x mark place w)) (pattern-fits F X (sign F X (trimmed F X x mark place w)) (magnitude F X (trimmed F X x mark place w)) (rw (g .signed) (sign-one F X w h)) (g .below)))
 
   left-below : (x : Method) → Ready x → (mark place w : ℕ) → finite F X w ≡ true → finite F X (trimmed F X x mark place w) ≡ true
-  left-below x r mark place w h = stays (λ v. finite F X v ≡ true) x r mark place w h (λ p f g. below-finite F X (trimmed F X x mark place w) (g .below))
+  left-below x r mark place w h = stays F X (λ v. finite F X v ≡ true) x r mark place w h (λ p f g. below-finite F X (trimmed F X x mark place w) (g .below))
 
   pub laws : Laws F X
   laws =
@@ -122,6 +118,10 @@ module _ (F X : ℕ) where
         left-pattern = λ method setting x e. left-fits x (accepted-ready F X method setting x e);
         left-mark = mark-both;
         left-finite = λ method setting x e. left-below x (accepted-ready F X method setting x e);
+        rises-above = λ method setting x e. rises-plus F X x (accepted-ready F X method setting x e);
+        rises-below = λ method setting x e. rises-minus F X x (accepted-ready F X method setting x e);
+        moves-once = λ method setting x e. rose-or-fell F X x (accepted-ready F X method setting x e);
+        changed-sum = answer-sum F X;
       }
 
 -- Layers of singles whose present readings are all finite: the step exponent holds the span and is the least that does; a code is the missing

@@ -2,6 +2,7 @@
 pub mod Cases
 pub mod CasesBeyond
 pub mod CasesEdges
+pub mod CasesMoves
 pub mod CasesRefusals
 pub mod CasesRows
 pub mod Powers
@@ -15,6 +16,7 @@ pub mod Absolute
 pub mod Digits
 pub mod Accepted
 pub mod OneReading
+pub mod Moves
 pub mod Packing
 pub mod Laws
 pub mod Bracket

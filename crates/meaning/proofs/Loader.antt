@@ -1,16 +1,19 @@
 -- "its answer is one 64-bit number, the pattern that the array call would leave at that place, or 2^32 plus the refusal number. Only the parity of the place matters."
-use mathlib.Core.Path.{_≡_, refl, sym, ap, _∙_}
-use mathlib.Core.Bool.{cond}
+-- Document 02 (a): "the C loader's number gains 2^33 for a rise, 2^34 for a fall".
+use mathlib.Core.Path.{_≡_, refl, ap, _∙_}
+use mathlib.Core.Bool.{Bool, true, false, cond}
 use mathlib.Core.List.{List, [], _∷_}
-use Prim.Native.Nat.{ℕ, zero, suc, _+_, _-_, _%_, _^_, _<_}
+use Prim.Native.Nat.{ℕ, zero, suc, _+_, _-_, _*_, _/_, _%_, _^_, _<_}
 use native.Mathlib.Nat.{le-of-suc-le-suc, not-suc-le-zero}
 use native.Mathlib.Omega.{arith}
 use lib.Dec.{eqb}
 use lib.IntN.{ℤ}
 use lib.ListN.{length, getD}
-use Rattle.meaning.specs.Methods.{Method, TailMethod, shave, set, groom, halfshave, tail, round, absolute, digits, shaved, tailSet, tailChanged, newMagnitude, result, trimmed, placeAfter, trimFrom}
+use lib.Pow.{high, low}
+use Rattle.meaning.specs.Methods.{Method, TailMethod, shave, set, groom, halfshave, tail, round, absolute, digits, shaved, tailSet, tailChanged, newMagnitude, result, trimmed, risen, fallen, placeAfter, trimFrom}
 use Rattle.meaning.specs.Questions.{Outcome, refused, accepted, trimQuestions}
-use Rattle.meaning.specs.Calls.{answering, leaving, trim, trimSingles, loaderNumber, loader}
+use Rattle.meaning.specs.Calls.{answering, leaving, trim, trimSingles, loaderNumber, gain, told, loader}
+use Rattle.meaning.proofs.Laws.{laws}
 
 module _ (F X : ℕ) (x : Method) (mark : ℕ) where
   -- the reading at a place of an array is trimmed at that place
@@ -40,12 +43,51 @@ module _ (F X : ℕ) (x : Method) (mark : ℕ) where
     unfolding trimmed result
     trimmed-parity w = rw (new-parity x _) refl
 
-module _ (method : ℕ) (setting : ℤ) (mark : ℕ) where
-  pub loader-is-array : (x : Method) → trimQuestions 23 8 method setting ≡ accepted x → (ws : List ℕ) (place : ℕ) → place < length ws
-      → loader method setting mark place (getD ws place 0) ≡ getD (trimSingles method setting mark ws .readings) place 0
-  unfolding loader loaderNumber answering trim leaving
-  loader-is-array x e ws place h = rw e (sym (at-place 23 8 x mark 0 ws place h ∙ ap (λ (p : ℕ). trimmed 23 8 x mark p (getD ws place 0)) (let z : 0 + place ≡ place = omega arith in z)))
+told-parity : (x : Method) (mark place other : ℕ) → place % 2 ≡ other % 2 → (w : ℕ) → told x mark place w ≡ told x mark other w
+unfolding told risen fallen
+told-parity x mark place other same w = rw (trimmed-parity 23 8 x mark place other same w) refl
 
+-- the gain stands above a pattern's 32 bits
+gain-is : (rose fell : Bool) → gain rose fell ≡ (cond rose 2 0 + cond fell 4 0) * 2 ^ 32
+unfolding gain
+gain-is true true = refl
+gain-is true false = refl
+gain-is false true = refl
+gain-is false false = refl
+
+module _ (x : Method) (mark place w : ℕ) (f : trimmed 23 8 x mark place w < 2 ^ 32) where
+  told-is : told x mark place w ≡ (cond (risen 23 8 x mark place w) 2 0 + cond (fallen 23 8 x mark place w) 4 0) * 2 ^ 32 + trimmed 23 8 x mark place w
+  unfolding told
+  told-is = let e = gain-is (risen 23 8 x mark place w) (fallen 23 8 x mark place w) in omega (arith, e)
+
+  told-low : told x mark place w % 2 ^ 32 ≡ trimmed 23 8 x mark place w
+  told-low = rw told-is (low _ 32 f)
+
+  told-high : told x mark place w / 2 ^ 32 ≡ cond (risen 23 8 x mark place w) 2 0 + cond (fallen 23 8 x mark place w) 4 0
+  told-high = rw told-is (high _ 32 f)
+
+module _ (method : ℕ) (setting : ℤ) (mark : ℕ) where
+  module _ (x : Method) (e : trimQuestions 23 8 method setting ≡ accepted x) where
+    accepted-told : (place w : ℕ) → loader method setting mark place w ≡ told x mark place w
+    unfolding loader loaderNumber answering
+    accepted-told place w = rw e refl
+
+    left : (place w : ℕ) → w < 2 ^ 32 → trimmed 23 8 x mark place w < 2 ^ 32
+    left place w f = laws 23 8 .left-pattern method setting x e mark place w f
+
+    -- the lower half is the pattern that the array call leaves at the place
+    pub loader-is-array : (ws : List ℕ) (place : ℕ) → place < length ws → getD ws place 0 < 2 ^ 32
+        → loader method setting mark place (getD ws place 0) % 2 ^ 32 ≡ getD (trimSingles method setting mark ws .readings) place 0
+    unfolding trim leaving
+    loader-is-array ws place h f =
+        rw (accepted-told place (getD ws place 0), e, at-place 23 8 x mark 0 ws place h)
+        (told-low x mark place (getD ws place 0) (left place (getD ws place 0) f) ∙ ap (λ (p : ℕ). trimmed 23 8 x mark p (getD ws place 0)) (let z : place ≡ 0 + place = omega arith in z))
+
+    -- the upper half is 2 for a rise, 4 for a fall and 0 where the exact value stayed
+    pub loader-moves : (place w : ℕ) → w < 2 ^ 32 → loader method setting mark place w / 2 ^ 32 ≡ cond (risen 23 8 x mark place w) 2 0 + cond (fallen 23 8 x mark place w) 4 0
+    loader-moves place w f = rw (accepted-told place w) (told-high x mark place w (left place w f))
+
+  -- a refusal gains nothing else
   pub loader-refuses : (n : ℕ) → trimQuestions 23 8 method setting ≡ refused n → (place w : ℕ) → loader method setting mark place w ≡ 2 ^ 32 + n
   unfolding loader loaderNumber answering
   loader-refuses n e place w = rw e refl
@@ -54,6 +96,6 @@ module _ (method : ℕ) (setting : ℤ) (mark : ℕ) where
   unfolding loader answering
   loader-parity place other same w = go (trimQuestions 23 8 method setting)
     where
-      go : (o : Outcome Method) → loaderNumber (answering o (λ x. trimmed 23 8 x mark place w)) ≡ loaderNumber (answering o (λ x. trimmed 23 8 x mark other w))
+      go : (o : Outcome Method) → loaderNumber (answering o (λ x. told x mark place w)) ≡ loaderNumber (answering o (λ x. told x mark other w))
       go (refused n) = refl
-      go (accepted x) = ap (λ (v : ℕ). loaderNumber (accepted v)) (trimmed-parity 23 8 x mark place other same w)
+      go (accepted x) = ap (λ (v : ℕ). loaderNumber (accepted v)) (told-parity x mark place other same w)

@@ -1,6 +1,6 @@
 -- One reading and one accepted method: what is left of it. The mark stays, a present reading stays present, an infinity or NaN stays as it is, and what a method
 -- keeps of magnitudes it keeps of readings. No lemma here knows the place.
-use mathlib.Core.Path.{_≡_, refl, sym, _∙_}
+use mathlib.Core.Path.{_≡_, refl, sym, _∙_, subst}
 use mathlib.Core.Logic.{_≢_}
 use mathlib.Core.Bool.{true, true≢false}
 use Prim.Native.Nat.{ℕ, _-_, _<_}
@@ -111,3 +111,19 @@ module _ (F X : ℕ) where
             signed = rw (is, sign-pattern F X (sign F X w) m below-m) (g .signed);
             holds = rw (is, magnitude-pattern F X (sign F X w) m below-m) (keeps place (magnitude F X w) (g .below) (g .holds));
           })
+
+  -- a present finite reading stays one, with its sign
+  pub stays-good : (x : Method) → Ready x → (mark place w : ℕ) → w ≢ mark → magnitude F X w < infinity F X → Good (λ m. Unit {0}) mark (sign F X w) (trimmed F X x mark place w)
+  stays-good x r mark place w p f =
+      trimmed-good (λ m. Unit {0}) x r (λ place m h u. tt) mark place (sign F X w) w (record { here = p; below = f; signed = refl; holds = tt })
+
+  -- one that is not present and finite stays as it is
+  pub stays : (P : ℕ → Type 0) (x : Method) → Ready x → (mark place w : ℕ) → P w
+      → (w ≢ mark → magnitude F X w < infinity F X → Good (λ m. Unit {0}) mark (sign F X w) (trimmed F X x mark place w) → P (trimmed F X x mark place w))
+      → P (trimmed F X x mark place w)
+  stays P x r mark place w h k = go (ℕ-discrete w mark) (decLt (magnitude F X w) (infinity F X))
+    where
+      go : Dec (w ≡ mark) → Dec (magnitude F X w < infinity F X) → P (trimmed F X x mark place w)
+      go (yes e) f = subst P (sym (rw e (trimmed-missing x mark place))) h
+      go (no e) (no f) = subst P (sym (trimmed-other x mark place w f)) h
+      go (no e) (yes f) = k e f (stays-good x r mark place w e f)

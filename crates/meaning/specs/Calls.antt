@@ -1,9 +1,10 @@
 -- What each call answers and leaves, accepted or refused (demand 1, and "An accepted trim works on the lent array itself"); and lists of calls (demand 3).
+use mathlib.Core.Bool.{Bool, cond}
 use mathlib.Core.List.{List, [], _∷_, map, zipWith}
 use Prim.Native.Nat.{ℕ, max, _+_, _^_}
 use lib.IntN.{ℤ, subℕ}
 use lib.ListN.{length}
-use Rattle.meaning.specs.Methods.{Method, Counts, unit, trimmed, trimFrom, counts}
+use Rattle.meaning.specs.Methods.{Method, Counts, unit, trimmed, risen, fallen, trimFrom, counts}
 use Rattle.meaning.specs.Layers.{Layer, packedLayers, packedCodes, unpackedCodes}
 use Rattle.meaning.specs.Questions.{Outcome, refused, accepted, above, trimQuestions, packQuestions, unpackQuestions}
 
@@ -39,10 +40,18 @@ trimDoubles = trim 52 11
 -- "the pattern that the array call would leave at that place, or 2^32 plus the refusal number"
 unfoldable pub loaderNumber : Outcome ℕ → ℕ
 loaderNumber (refused n) = 2 ^ 32 + n
-loaderNumber (accepted w) = w
+loaderNumber (accepted number) = number
+
+-- document 02 (a): "the C loader's number gains 2^33 for a rise, 2^34 for a fall"
+unfoldable pub gain : Bool → Bool → ℕ
+gain rose fell = cond rose (2 ^ 33) 0 + cond fell (2 ^ 34) 0
+
+-- what trimming one single says: its pattern, and with the gain whether its exact value rose, fell or stayed
+unfoldable pub told : Method → ℕ → ℕ → ℕ → ℕ
+told x mark place w = trimmed 23 8 x mark place w + gain (risen 23 8 x mark place w) (fallen 23 8 x mark place w)
 
 unfoldable pub loader : ℕ → ℤ → ℕ → ℕ → ℕ → ℕ
-loader method setting mark place w = loaderNumber (answering (trimQuestions 23 8 method setting) (λ x. trimmed 23 8 x mark place w))
+loader method setting mark place w = loaderNumber (answering (trimQuestions 23 8 method setting) (λ x. told x mark place w))
 
 -- ---- packing and unpacking: the answer, and the lent arrays afterwards
 

@@ -1,9 +1,9 @@
--- Document 01, "Seven methods": on one reading, and on an array with its four counts. A method works on magnitudes; the sign never changes.
+-- Document 01, "Seven methods": on one reading, and on an array with its counts. A method works on magnitudes; the sign never changes.
 use mathlib.Core.Bool.{Bool, false, cond, not, _&&_}
 use mathlib.Core.List.{List, [], _∷_}
 use Prim.Native.Nat.{ℕ, zero, suc, _+_, _-_, _*_, _/_, _%_, _^_}
 use lib.Dec.{leb, ltb, eqb}
-use Rattle.meaning.specs.Readings.{size, spacing, sign, magnitude, pattern, infinity, largest, finite, magnitudeOf, leastExp, missing, present}
+use Rattle.meaning.specs.Readings.{size, spacing, sign, magnitude, pattern, infinity, largest, finite, magnitudeOf, leastExp, position, missing, present}
 
 -- Methods 0 to 3, which change the tail alone.
 pub data TailMethod : Type 0 where
@@ -125,6 +125,13 @@ module _ (F X : ℕ) where
   unfoldable pub clipped : Method → ℕ → ℕ → ℕ → Bool
   clipped x mark place w = trimmable mark w && present mark (result x place w) && clips x (magnitude F X w)
 
+  -- document 02 (a): "whether the exact value rose, fell or stayed". Exact values have signs: a negative reading that is shaved rises
+  unfoldable pub risen : Method → ℕ → ℕ → ℕ → Bool
+  risen x mark place w = ltb (position F X w) (position F X (trimmed x mark place w))
+
+  unfoldable pub fallen : Method → ℕ → ℕ → ℕ → Bool
+  fallen x mark place w = ltb (position F X (trimmed x mark place w)) (position F X w)
+
   -- ---- an array
 
   -- "missing readings count as places": the place after that of the reading w, whatever w is
@@ -141,12 +148,14 @@ module _ (F X : ℕ) where
   countFrom test mark place [] = 0
   countFrom test mark place (w ∷ ws) = cond (test place w) 1 0 + countFrom test mark (placeAfter mark w place) ws
 
--- "four counts of places"
+-- "four counts of places"; document 02 (a): "the array's answer carries the numbers risen and fallen"
 pub record Counts : Type 0 where
   pub changed-places : ℕ
   pub spared-places : ℕ
   pub clipped-places : ℕ
   pub missing-places : ℕ
+  pub risen-places : ℕ
+  pub fallen-places : ℕ
 
 module _ (F X : ℕ) where
   unfoldable pub counts : Method → ℕ → List ℕ → Counts
@@ -156,4 +165,6 @@ module _ (F X : ℕ) where
         spared-places = countFrom F X (spared F X x mark) mark 0 ws;
         clipped-places = countFrom F X (clipped F X x mark) mark 0 ws;
         missing-places = countFrom F X (λ place w. missing mark w) mark 0 ws;
+        risen-places = countFrom F X (risen F X x mark) mark 0 ws;
+        fallen-places = countFrom F X (fallen F X x mark) mark 0 ws;
       }

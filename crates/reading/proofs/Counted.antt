@@ -1,4 +1,4 @@
--- What is left and counted of one reading is what document 01's definitions say: the pattern, changed, spared and missing together, clipped, missing.
+-- What is left and counted of one reading is what the documents' definitions say: the pattern, changed, spared and missing together, clipped, missing, risen.
 use mathlib.Core.Path.{_≡_, refl, sym, ap, _∙_}
 use mathlib.Core.Logic.{_≢_}
 use mathlib.Core.Bool.{Bool, true, false, cond, not, true≢false}
@@ -7,18 +7,19 @@ use native.Mathlib.Nat.{not-le-of-lt}
 use native.Mathlib.Decide.{decLt, ℕ-discrete}
 use native.Mathlib.Omega.{arith}
 use borrow.Author.Tests.{eq-eqb, ne-eqb, leb-true, ltb-true, lt-ltb, le-ltb}
-use lib.Dec.{eqb}
+use lib.Dec.{eqb, ltb}
 use lib.Pow.{pow-pos}
-use Rattle.meaning.specs.Readings.{size, sign, magnitude, infinity, largest, finite, missing, present}
-use Rattle.meaning.specs.Methods.{Method, tail, round, absolute, digits, nearest, shaved, rounded, multiple, clips, newMagnitude, result, trimmable, spared, trimmed, changed, clipped}
+use Rattle.meaning.specs.Readings.{size, sign, magnitude, infinity, largest, finite, position, missing, present}
+use Rattle.meaning.specs.Methods.{Method, tail, round, absolute, digits, nearest, shaved, rounded, multiple, clips, newMagnitude, result, trimmable, spared, trimmed, changed, clipped, risen}
 use Rattle.meaning.proofs.Sizes.{size-le}
 use Rattle.meaning.proofs.Patterns.{magnitude-pattern}
 use Rattle.meaning.proofs.Nearest.{nearest-multiple}
 use Rattle.meaning.proofs.Rounding.{cap, round-clipped, absolute-clipped}
 use Rattle.meaning.proofs.Absolute.{absolute-exact}
 use Rattle.meaning.proofs.Accepted.{Ready}
-use Rattle.meaning.proofs.OneReading.{trimmed-other, trimmed-spared, trimmed-result, new-below}
-use Rattle.reading.specs.Left.{unlessMissing, leftFrom, settledFrom, wanted, wantedBy, over, settledBy, inForce}
+use Rattle.meaning.proofs.OneReading.{trimmed-other, trimmed-spared, trimmed-result, new-below, stays}
+use Rattle.reading.specs.Left.{unlessMissing, leftFrom, settledFrom, wanted, wantedBy, over, roseFrom, settledBy, inForce}
+use Rattle.reading.proofs.Rose.{rose-stays, rose-is}
 
 pub on-grid : (t m : ℕ) → shaved t m ≡ m → rounded t m ≡ m
 unfolding shaved rounded
@@ -150,7 +151,14 @@ module _ (F X : ℕ) where
                 simp (trimmed-result F X x mark place w p f e, ne-eqb (result F X x place w) w (clip-changes c f), ne-eqb w mark p, lt-ltb (magnitude F X w) (infinity F X) f, ne-eqb (result F X x place w) mark e, c)
             by false c = simp (c, ne-eqb w mark p, lt-ltb (magnitude F X w) (infinity F X) f, ne-eqb (result F X x place w) mark e) (either (eqb (trimmed F X x mark place w) w))
 
+    pub risen-is : roseFrom F X w (leftFrom mark w (wantedBy F X x place w)) ≡ cond (risen F X x mark place w) 1 0
+    unfolding risen
+    risen-is =
+        rw left-is
+        (stays F X (λ v. roseFrom F X w v ≡ cond (ltb (position F X w) (position F X v)) 1 0) x r mark place w (rose-stays F X w) (λ p f g.
+        rose-is F X w (trimmed F X x mark place w) (g .signed) f (g .below)))
+
     -- all of it
     pub settled-is : settledBy F X x mark place w ≡ inForce F X x mark place w
     unfolding settledBy settledFrom inForce missing
-    settled-is = rw (changed-is, clipped-is, marked-is, left-is) refl
+    settled-is = rw (changed-is, clipped-is, marked-is, risen-is, left-is) refl

@@ -2,7 +2,7 @@
 use mathlib.Core.Path.{_≡_, refl, sym, ap, _∙_, subst}
 use mathlib.Core.Bool.{cond}
 use Prim.Native.Nat.{ℕ, zero, suc, _+_, _-_, _*_, _/_, _%_, _^_, _≤_, _<_, zero-le}
-use native.Mathlib.Nat.{mod-add-mod, mod-eq-of-lt, mod-lt, mul-add-mod-self-right, add-mod-right, div-add-mod', div-mul-le-self, div-lt-iff-lt-mul, mul-le-mul-right, add-mul, mul-comm, pow-suc}
+use native.Mathlib.Nat.{mod-eq-of-lt, mod-lt, mul-add-mod-self-right, add-mod-right, div-add-mod', div-mul-le-self, div-lt-iff-lt-mul, mul-le-mul-right, add-mul, mul-comm, pow-suc}
 use native.Mathlib.Numerals.{add-one}
 use native.Mathlib.Decide.{decLt, ℕ-discrete}
 use native.Mathlib.Omega.{arith}
@@ -16,6 +16,7 @@ use Rattle.meaning.proofs.Nearest.{nearest-floor}
 use Rattle.reading.specs.Left.{settledFrom, wanted, over, tailAdded, settledBy, settledTail}
 use Rattle.reading.specs.Tails.{halfUnit, Constants, constants, TailOf, tailWord, nearWord, roundWord, roundOver}
 use Rattle.reading.proofs.Settled.{settled-by}
+use Rattle.reading.proofs.Wraps.{wrapped, taken-back}
 use Rattle.reading.proofs.Words.{cond-le, floor-sign, rounded-sum, wanted-sum, round-new, round-over}
 
 pub half-of : (t U : ℕ) → U ≡ 2 ^ t → U / 2 ≡ halfUnit t
@@ -40,17 +41,6 @@ made F k c e = subst (TailOf F) (sym e) (record { short = omega arith; is-ones =
 pub alone : (F k : ℕ) (c : Constants) → TailOf F c → c .bits ≡ F - k → c ≡ constants F k
 unfolding constants
 alone F k c h e = rw (← e, ← h .is-ones, ← h .is-half) refl
-
--- a difference that wraps around
-pub wrapped : (W d p x : ℕ) → d < W → p < W → (d + p) % W ≡ x → d ≡ (x + (W - p)) % W
-wrapped W d p x hd hp e =
-    let f : d + p + (W - p) ≡ d + W = omega arith in
-    sym (ap (λ (y : ℕ). (y + (W - p)) % W) (sym e) ∙ mod-add-mod (d + p) W (W - p) ∙ ap (λ (y : ℕ). y % W) f ∙ add-mod-right d W ∙ mod-eq-of-lt hd)
-
-taken-back : (W up back : ℕ) → up < W → back ≤ W → ((up + (W - back)) % W + back) % W ≡ up
-taken-back W up back h k =
-    let f : up + (W - back) + back ≡ up + W = omega arith in
-    mod-add-mod (up + (W - back)) W back ∙ ap (λ (y : ℕ). y % W) f ∙ add-mod-right up W ∙ mod-eq-of-lt h
 
 -- a cut by the tail's bits
 pub mask-cut : (t x ones : ℕ) → ones ≡ 2 ^ t - 1 → x - bitAnd x ones ≡ x / 2 ^ t * 2 ^ t
@@ -194,11 +184,11 @@ module _ (F X : ℕ) where
   -- ---- and so each reading trimmed with a tail's constants gets the method's result
 
   module _ (c : Constants) (h : TailOf F c) (mark w : ℕ) where
-    pub settled-tail : (add : ℕ) → settledFrom mark w (tailWord F X c add w) 0 ≡ settledTail F X (c .bits) add mark w
+    pub settled-tail : (add : ℕ) → settledFrom F X mark w (tailWord F X c add w) 0 ≡ settledTail F X (c .bits) add mark w
     unfolding settledTail tailWord finite
-    settled-tail add = ap (λ (z : ℕ). settledFrom mark w z 0) (tail-cut w (c .bits) add (c .ones) _ (tailWord F X c add w) (h .short) (h .is-ones) refl refl)
+    settled-tail add = ap (λ (z : ℕ). settledFrom F X mark w z 0) (tail-cut w (c .bits) add (c .ones) _ (tailWord F X c add w) (h .short) (h .is-ones) refl refl)
 
-    pub settled-round : 1 ≤ c .bits → w < 2 ^ (F + X + 1) → settledFrom mark w (roundWord F X c w) (roundOver F X c w) ≡ settledBy F X (round (F - c .bits)) mark 0 w
+    pub settled-round : 1 ≤ c .bits → w < 2 ^ (F + X + 1) → settledFrom F X mark w (roundWord F X c w) (roundOver F X c w) ≡ settledBy F X (round (F - c .bits)) mark 0 w
     unfolding roundWord roundOver nearWord finite magnitude
     settled-round some short =
         let W = 2 ^ (F + X + 1) in

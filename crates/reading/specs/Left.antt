@@ -1,16 +1,18 @@
 -- What is left of a reading x whose new pattern would be z, and what it counts for; and the new pattern of a reading by its new magnitude. For every width.
 use mathlib.Core.Bool.{cond}
 use Prim.Native.Nat.{ℕ, _+_}
-use lib.Dec.{eqb}
+use lib.Dec.{eqb, ltb}
 use Rattle.meaning.specs.Readings.{sign, magnitude, pattern, finite, missing}
-use Rattle.meaning.specs.Methods.{Method, shaved, newMagnitude, clips, trimmed, changed, spared, clipped}
+use Rattle.meaning.specs.Methods.{Method, shaved, newMagnitude, clips, trimmed, changed, spared, clipped, risen}
 
--- what one reading, or a whole array, counts for: places changed, places where the reading or its result is the mark, places clipped, places missing
+-- what one reading, or a whole array, counts for: places changed, places where the reading or its result is the mark, places clipped, places missing,
+-- places where the exact value rose
 pub record Tally : Type 0 where
   pub changed : ℕ
   pub marked : ℕ
   pub clipped : ℕ
   pub missing : ℕ
+  pub risen : ℕ
 
 -- the pattern that is left of a reading, and what the reading counts for
 pub record Settled : Type 0 where
@@ -25,18 +27,26 @@ unlessMissing mark x z = cond (eqb x mark) x z
 unfoldable pub leftFrom : ℕ → ℕ → ℕ → ℕ
 leftFrom mark x z = cond (eqb (unlessMissing mark x z) mark) x (unlessMissing mark x z)
 
--- `over` is 1 where z is clipped
-unfoldable pub settledFrom : ℕ → ℕ → ℕ → ℕ → Settled
-settledFrom mark x z over =
-    record {
-      pattern = leftFrom mark x z;
-      tally = record {
-        changed = cond (eqb (leftFrom mark x z) x) 0 1;
-        marked = cond (eqb (unlessMissing mark x z) mark) 1 0;
-        clipped = cond (eqb (leftFrom mark x z) x) 0 over;
-        missing = cond (eqb x mark) 1 0;
-      };
-    }
+module _ (F X : ℕ) where
+  -- 1 where the exact value rises from x to p, two patterns of one sign: the magnitude grows and the sign is 0, or it shrinks and the sign is 1
+  unfoldable pub roseFrom : ℕ → ℕ → ℕ
+  roseFrom x p =
+      let grows = ltb (magnitude F X x) (magnitude F X p) in
+      cond (eqb p x) 0 (cond (eqb (sign F X p) 0) (cond grows 1 0) (cond grows 0 1))
+
+  -- `over` is 1 where z is clipped
+  unfoldable pub settledFrom : ℕ → ℕ → ℕ → ℕ → Settled
+  settledFrom mark x z over =
+      record {
+        pattern = leftFrom mark x z;
+        tally = record {
+          changed = cond (eqb (leftFrom mark x z) x) 0 1;
+          marked = cond (eqb (unlessMissing mark x z) mark) 1 0;
+          clipped = cond (eqb (leftFrom mark x z) x) 0 over;
+          missing = cond (eqb x mark) 1 0;
+          risen = roseFrom x (leftFrom mark x z);
+        };
+      }
 
 -- methods 0 to 3: a tail of t bits becomes `add`, and zero stays
 unfoldable pub tailAdded : ℕ → ℕ → ℕ → ℕ
@@ -56,13 +66,13 @@ module _ (F X : ℕ) where
 
   -- a reading trimmed by a method at a place
   unfoldable pub settledBy : Method → ℕ → ℕ → ℕ → Settled
-  settledBy x mark place w = settledFrom mark w (wantedBy x place w) (over x w)
+  settledBy x mark place w = settledFrom F X mark w (wantedBy x place w) (over x w)
 
   -- a reading whose tail of t bits becomes `add`
   unfoldable pub settledTail : ℕ → ℕ → ℕ → ℕ → Settled
-  settledTail t add mark w = settledFrom mark w (wanted w (tailAdded t add (magnitude F X w))) 0
+  settledTail t add mark w = settledFrom F X mark w (wanted w (tailAdded t add (magnitude F X w))) 0
 
-  -- what document 01's definitions say of a reading: the pattern that is left, and what it counts for
+  -- what the documents' definitions say of a reading: the pattern that is left, and what it counts for
   unfoldable pub inForce : Method → ℕ → ℕ → ℕ → Settled
   inForce x mark place w =
       record {
@@ -72,5 +82,6 @@ module _ (F X : ℕ) where
           marked = cond (spared F X x mark place w) 1 0 + cond (missing mark w) 1 0;
           clipped = cond (clipped F X x mark place w) 1 0;
           missing = cond (missing mark w) 1 0;
+          risen = cond (risen F X x mark place w) 1 0;
         };
       }

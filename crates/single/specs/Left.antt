@@ -9,7 +9,7 @@ use Rattle.single.specs.declared.Single.{Single}
 use Rattle.single.specs.declared.Tail.{Tail}
 
 abbrev pub settledOf : Single → Settled
-settledOf r = record { pattern = r .pattern; tally = record { changed = r .changed; marked = r .marked; clipped = r .clipped; missing = r .missing } }
+settledOf r = record { pattern = r .pattern; tally = record { changed = r .changed; marked = r .marked; clipped = r .clipped; missing = r .missing; risen = r .risen } }
 
 abbrev pub constantsOf : Tail → Constants
 constantsOf t = record { bits = t .bits; ones = t .ones; half = t .half }

@@ -12,13 +12,15 @@ ghost use Rattle.reading.specs.Left.{settledFrom, settledBy, settledTail};
 ghost use Rattle.reading.specs.Tails.{constants, TailOf, tailWord, roundWord, roundOver};
 ghost use Rattle.single.specs.Left.{settledOf, constantsOf, subnormal};
 
-// What is left of a single, and numbers of 0 or 1: whether it is changed, whether it or its result is the mark, whether it is clipped, whether it is missing.
+// What is left of a single, and numbers of 0 or 1: whether it is changed, whether it or its result is the mark, whether it is clipped, whether it is missing, whether
+// its exact value rose.
 pub struct Single {
     pub pattern: u32,
     pub changed: u32,
     pub marked: u32,
     pub clipped: u32,
     pub missing: u32,
+    pub risen: u32,
 }
 
 // `yes` where a and b are equal, `no` where they differ.
@@ -28,22 +30,29 @@ pub fn choose_single(a: u32, b: u32, yes: u32, no: u32) -> u32
     if a == b { yes } else { no }
 }
 
-// The reading x whose new pattern would be z: x itself where it is missing or z is the mark. `over` is 1 where z is clipped.
+// The reading x whose new pattern would be z: x itself where it is missing or z is the mark. `over` is 1 where z is clipped. What x loses wraps around: its top bit is 1
+// where the magnitude grows, a rise above zero; below zero a rise is where the magnitude shrinks.
+// The new pattern comes from what x loses too: the loops over singles are faster so than by a choice between patterns, as doubles have it.
 pub fn settle_single(x: u32, z: u32, over: u32, mark: u32) -> Single
-    ensures { λ r. ⌜ settledOf r ≡ settledFrom mark x z over ⌝ }
+    ensures { λ r. ⌜ settledOf r ≡ settledFrom 23 8 mark x z over ⌝ }
 {
-    let hit = choose_single(z, mark, 1, 0);
-    let marked = choose_single(x, mark, 1, hit);
-    let p = choose_single(marked, 0, z, x);
+    let lost = choose_single(x, mark, 0, std::num::wrapping_sub_u32(x, z));
+    let y = std::num::wrapping_sub_u32(x, lost);
+    let less = choose_single(y, mark, 0, lost);
+    let p = std::num::wrapping_sub_u32(x, less);
     let changed = choose_single(p, x, 0, 1);
+    let marked = choose_single(y, mark, 1, 0);
     let clipped = choose_single(p, x, 0, over);
     let missing = choose_single(x, mark, 1, 0);
+    let turned = choose_single(x >> 31, less >> 31, 0, 1);
+    let risen = changed & turned;
     Single {
         pattern: p,
         changed,
         marked,
         clipped,
         missing,
+        risen,
     }
 }
 
@@ -104,7 +113,7 @@ fn unless_zero(m: u32, add: u32) -> u32
 pub fn tail_single(x: u32, tail: Tail, add: u32, mark: u32) -> Single
     requires { ⌜ (TailOf 23 (constantsOf tail)) × (add ≤ tail .ones) ⌝ }
     ensures result { λ r. ⌜ settledOf r ≡ settledTail 23 8 (tail .bits) add mark x ⌝ }
-    ensures words { λ r. ⌜ settledOf r ≡ settledFrom mark x (tailWord 23 8 (constantsOf tail) add x) 0 ⌝ }
+    ensures words { λ r. ⌜ settledOf r ≡ settledFrom 23 8 mark x (tailWord 23 8 (constantsOf tail) add x) 0 ⌝ }
 {
     let m = x % 0x8000_0000;
     let s = x - (x & tail.ones);
@@ -118,7 +127,7 @@ pub fn tail_single(x: u32, tail: Tail, add: u32, mark: u32) -> Single
 pub fn round_single(x: u32, tail: Tail, mark: u32) -> Single
     requires { ⌜ (TailOf 23 (constantsOf tail)) × (1 ≤ tail .bits) ⌝ }
     ensures result { λ r. ⌜ settledOf r ≡ settledBy 23 8 (round (23 - tail .bits)) mark 0 x ⌝ }
-    ensures words { λ r. ⌜ settledOf r ≡ settledFrom mark x (roundWord 23 8 (constantsOf tail) x) (roundOver 23 8 (constantsOf tail) x) ⌝ }
+    ensures words { λ r. ⌜ settledOf r ≡ settledFrom 23 8 mark x (roundWord 23 8 (constantsOf tail) x) (roundOver 23 8 (constantsOf tail) x) ⌝ }
 {
     let m = x % 0x8000_0000;
     let odd = (m >> tail.bits) % 2;

@@ -1,13 +1,14 @@
--- Runs of bytes laid one after the other: the four counts of a series, and the lines of values, over plain lists.
+-- Runs of bytes laid one after the other: the counts of a series, and the lines of values, over plain lists.
 use Prim.Native.Nat.{ℕ, zero, suc, _+_, _-_, _*_, _≤_, _<_}
 use native.Mathlib.Omega.{arith}
-use native.Mathlib.Nat.{sub-zero}
+use native.Mathlib.Nat.{sub-zero, not-suc-le-zero, le-of-suc-le-suc}
 use native.Mathlib.Numerals.{add-one}
 use mathlib.Core.Path.{_≡_, refl, sym, ap, _∙_}
 use mathlib.Core.List.{List, [], _∷_, _++_, map, append-assoc, append-nil}
-use lib.ListN.{length, getD, length-append}
+use lib.ListN.{length, drop, getD, length-append, length-drop, drop-of-length-le}
+use lib.Seq.{drop-cons}
 use Rattle.meaning.specs.Questions.{refused}
-use Rattle.form.specs.Form.{bytes, line, after, pattern, valueLines}
+use Rattle.form.specs.Form.{bytes, line, after, pattern, valueLines, All}
 use Rattle.form.specs.Parse.{ending}
 use Rattle.form.specs.Output.{columns, decimal, printed}
 use Rattle.text_in.specs.Places.{areaSeries}
@@ -42,43 +43,78 @@ laid-more l at v m p x w k q h e f =
 field-short : (n left : ℕ) → n < 1000 → length (field n left) ≤ 4
 field-short n left h = let s = decimal-short n h in let t = length-append (decimal n) (ending left ∷ []) in omega arith
 
--- k counts of the four were laid
-pub record Counted (l : List ℕ) (at k : ℕ) (w m : List ℕ) (p : ℕ) : Type 0 where
-  pub laid : Laid l at w m p
-  pub short : length w ≤ 4 * k
-  pub space : at + 16 ≤ length l
+count-small : (ns : List ℕ) → All (λ n. n < 1000) ns → (i : ℕ) → i < length ns → getD ns i 0 < 1000
+count-small [] a i h = absurd (not-suc-le-zero h)
+count-small (n ∷ ns) a zero h = a .0
+count-small (n ∷ ns) a (suc i) h = count-small ns (a .1) i (le-of-suc-le-suc h)
 
-pub counted-start : (l : List ℕ) (at : ℕ) → at + 16 ≤ length l → Counted l at 0 [] l at
-counted-start l at h = record { laid = record { stored = paste-none l at; place = omega arith; room = omega arith }; short = omega arith; space = h }
+-- three digits each, and the byte after them
+pub counts-short : (ns : List ℕ) → All (λ n. n < 1000) ns → length (line (map decimal ns)) ≤ 4 * length ns
+counts-short [] a = omega arith
+counts-short (n ∷ ns) a =
+    let b = decimal-short n (a .0) in
+    let c = counts-short ns (a .1) in
+    let d = length-append (decimal n) (after (map decimal ns) ∷ line (map decimal ns)) in
+    omega arith
 
-module _ (l : List ℕ) (at k : ℕ) (w m : List ℕ) (p : ℕ) (x : Counted l at k w m p) (h : k < 4) where
-  pub counted-room : p + 4 ≤ length m
-  counted-room =
+-- a count before others on its line
+count-line : (n : ℕ) (ns : List ℕ) → field n (length ns) ++ line (map decimal ns) ≡ line (map decimal (n ∷ ns))
+count-line n ns = append-assoc (decimal n) (ending (length ns) ∷ []) (line (map decimal ns)) ∙ ap (λ (b : ℕ). decimal n ++ b ∷ line (map decimal ns)) (go ns)
+  where
+    go : (ns : List ℕ) → ending (length ns) ≡ after (map decimal ns)
+    go [] = refl
+    go (n ∷ ns) = refl
+
+-- i counts of ns were laid
+pub record CountsTurn (l₀ : List ℕ) (at : ℕ) (ns l : List ℕ) (i p : ℕ) : Type 0 where
+  pub small : All (λ n. n < 1000) ns
+  pub space : at + 4 * length ns ≤ length l₀
+  pub text : List ℕ
+  pub short : length text ≤ 4 * i
+  pub laid : Laid l₀ at text l p
+  pub same : text ++ line (map decimal (drop i ns)) ≡ line (map decimal ns)
+
+pub counts-start : (l : List ℕ) (at : ℕ) (ns : List ℕ) → All (λ n. n < 1000) ns → at + 4 * length ns ≤ length l → CountsTurn l at ns l 0 at
+counts-start l at ns a h = record { small = a; space = h; text = []; short = omega arith; laid = record { stored = paste-none l at; place = omega arith; room = omega arith }; same = refl }
+
+module _ (l₀ : List ℕ) (at : ℕ) (ns l : List ℕ) (i p : ℕ) (x : CountsTurn l₀ at ns l i p) where
+  pub counts-room : i < length ns → (getD ns i 0 < 1000) × (p + 4 ≤ length l)
+  counts-room h =
       let a = x .short in
       let b = x .space in
       let c = x .laid .place in
-      let d = laid-long l at w m p (x .laid) in
-      omega arith
+      let d = laid-long l₀ at (x .text) l p (x .laid) in
+      (count-small ns (x .small) i h, omega arith)
 
-  pub counted-more : (n left : ℕ) (o : List ℕ) (q : ℕ) → n < 1000 → (q ≡ p + length (field n left)) × (o ≡ paste m p (field n left)) → Counted l at (suc k) (w ++ field n left) o q
-  counted-more n left o q g e =
+  pub counts-turn : i < length ns → (m : List ℕ) (q : ℕ) → (q ≡ p + length (field (getD ns i 0) (length ns - 1 - i))) × (m ≡ paste l p (field (getD ns i 0) (length ns - 1 - i))) → CountsTurn l₀ at ns m (i + 1) q
+  counts-turn h m q e =
+      let n = getD ns i 0 in
+      let left = length ns - 1 - i in
+      let rest = drop (i + 1) ns in
       let a = x .short in
       let b = x .space in
       let c = x .laid .place in
-      let f = field-short n left g in
-      let t = length-append w (field n left) in
-      record { laid = laid-more l at w m p (x .laid) (field n left) o q (omega arith) (e .1) (e .0); short = omega arith; space = x .space }
+      let f = field-short n left (counts-room h .0) in
+      let t = length-append (x .text) (field n left) in
+      record {
+        small = x .small;
+        space = x .space;
+        text = x .text ++ field n left;
+        short = omega arith;
+        laid = laid-more l₀ at (x .text) l p (x .laid) (field n left) m q (omega arith) (e .1) (e .0);
+        same =
+            append-assoc (x .text) (field n left) (line (map decimal rest))
+            ∙ ap (λ (k : ℕ). x .text ++ (field n k ++ line (map decimal rest))) {x = left} {y = length rest} (simp length-drop (omega arith))
+            ∙ ap (λ (y : List ℕ). x .text ++ y) (count-line n rest)
+            ∙ ap (λ (j : ℕ). x .text ++ line (map decimal (n ∷ drop j ns))) (add-one i)
+            ∙ ap (λ (y : List ℕ). x .text ++ line (map decimal y)) (sym (drop-cons ns i 0 h))
+            ∙ x .same;
+      }
 
-fields-line : (a b c d : ℕ) → ((field a 3 ++ field b 2) ++ field c 1) ++ field d 0 ≡ line (map decimal (a ∷ b ∷ c ∷ d ∷ []))
-fields-line a b c d =
-    append-assoc (field a 3 ++ field b 2) (field c 1) (field d 0)
-    ∙ append-assoc (field a 3) (field b 2) (field c 1 ++ field d 0)
-    ∙ append-assoc (decimal a) (44 ∷ []) (field b 2 ++ (field c 1 ++ field d 0))
-    ∙ ap (λ (y : List ℕ). decimal a ++ 44 ∷ y) (append-assoc (decimal b) (44 ∷ []) (field c 1 ++ field d 0) ∙ ap (λ (y : List ℕ). decimal b ++ 44 ∷ y) (append-assoc (decimal c) (44 ∷ []) (field d 0)))
-
-pub counted-done : (l : List ℕ) (at a b c d : ℕ) (m : List ℕ) (p : ℕ) → Counted l at 4 (((field a 3 ++ field b 2) ++ field c 1) ++ field d 0) m p
-    → (p ≡ at + length (line (map decimal (a ∷ b ∷ c ∷ d ∷ [])))) × (m ≡ paste l at (line (map decimal (a ∷ b ∷ c ∷ d ∷ []))))
-counted-done l at a b c d m p x = let e = fields-line a b c d in (x .laid .place ∙ ap (λ (y : List ℕ). at + length y) e, x .laid .stored ∙ ap (paste l at) e)
+  pub counts-done : length ns ≤ i → (p ≡ at + length (line (map decimal ns))) × (l ≡ paste l₀ at (line (map decimal ns)))
+  counts-done h =
+      let e : x .text ≡ line (map decimal ns) = sym (append-nil (x .text)) ∙ ap (λ (y : List ℕ). x .text ++ line (map decimal y)) (sym (drop-of-length-le ns h)) ∙ x .same in
+      (x .laid .place ∙ ap (λ (y : List ℕ). at + length y) e, x .laid .stored ∙ ap (paste l₀ at) e)
 
 -- ---- a refusal
 

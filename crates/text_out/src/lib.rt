@@ -2,11 +2,11 @@
 // each series, as `text_in` fills it.
 // Internal: `listing` is made of them, and of the readers in `text_in`.
 ghost use mathlib.Core.Path.{_≡_};
-ghost use mathlib.Core.List.{[], _∷_, map};
+ghost use mathlib.Core.List.{map};
 ghost use Prim.Native.Nat.{_+_, _*_, _<_, _≤_};
 ghost use lib.ListN.{length};
 ghost use Rattle.meaning.specs.Questions.{refused};
-ghost use Rattle.form.specs.Form.{hexChar, hexText, line, pattern, valueLines};
+ghost use Rattle.form.specs.Form.{All, hexChar, hexText, line, pattern, valueLines};
 ghost use Rattle.form.specs.Parse.{ending};
 ghost use Rattle.form.specs.Output.{decimal, columns, printed};
 ghost use Rattle.text_in.specs.Places.{areaSeries};
@@ -119,23 +119,20 @@ pub fn put_field(out: &mut [u8], at: usize, n: usize, left: usize) -> usize
     p + 1
 }
 
-// The line of a series' four counts from `at` on; the place after it.
-pub fn put_counts(
-    out: &mut [u8],
-    at: usize,
-    changed: usize,
-    spared: usize,
-    clipped: usize,
-    missing: usize,
-) -> usize
-    requires { ⌜ (changed < 1000) × (spared < 1000) × (clipped < 1000) × (missing < 1000) × (at + 16 ≤ length (now out)) ⌝ }
-    ensures { λ r. ⌜ r ≡ at + length (line (map decimal (changed ∷ spared ∷ clipped ∷ missing ∷ []))) ⌝ }
-    ensures { λ _. ⌜ now (out .exit) ≡ paste (now (out .entry)) at (line (map decimal (changed ∷ spared ∷ clipped ∷ missing ∷ []))) ⌝ }
+// The line of counts below 1000 from `at` on; the place after it.
+pub fn put_counts(out: &mut [u8], at: usize, counts: &[usize]) -> usize
+    requires { ⌜ All (λ n. n < 1000) (now counts) ⌝ }
+    requires { ⌜ at + 4 * length (now counts) ≤ length (now out) ⌝ }
+    ensures { λ r. ⌜ r ≡ at + length (line (map decimal (now (counts .entry)))) ⌝ }
+    ensures { λ _. ⌜ now (out .exit) ≡ paste (now (out .entry)) at (line (map decimal (now (counts .entry)))) ⌝ }
 {
-    let p = put_field(out, at, changed, 3);
-    let q = put_field(out, p, spared, 2);
-    let r = put_field(out, q, clipped, 1);
-    put_field(out, r, missing, 0)
+    let mut i: usize = 0;
+    let mut p: usize = at;
+    while i < counts.len() {
+        p = put_field(out, p, counts[i], counts.len() - 1 - i);
+        i += 1;
+    }
+    p
 }
 
 // The lines of values of the n series in the work area from `at` on, with room for 72 bytes each; the place after them.

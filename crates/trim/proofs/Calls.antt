@@ -2,7 +2,7 @@
 use mathlib.Core.Path.{_≡_, refl, sym, ap, _∙_, subst}
 use mathlib.Core.Logic.{_≢_}
 use mathlib.Core.List.{List}
-use Prim.Native.Nat.{ℕ, _-_, _≤_}
+use Prim.Native.Nat.{ℕ, _≤_}
 use lib.IntN.{ℤ}
 use Rattle.meaning.specs.Methods.{Method, placeAfter, trimFrom, counts}
 use Rattle.meaning.specs.Questions.{refused, accepted, trimQuestions}
@@ -14,6 +14,7 @@ use Rattle.asking.proofs.Questions.{Bounds, accepted-is, refused-is, single-bou
 use Rattle.reading.specs.Left.{Tally, settledBy}
 use Rattle.loops.specs.Walk.{walkedBy, talliedBy}
 use Rattle.loops.specs.Methods.{Fitting}
+use Rattle.trim.specs.Answers.{countsOf}
 use Rattle.trim.proofs.Meaning.{left-all, fewer, counts-are}
 
 module _ (F X method : ℕ) (s : ℤ) (mark : ℕ) (ws : List ℕ) where
@@ -54,11 +55,11 @@ module _ (F X method : ℕ) (s : ℤ) (mark : ℕ) (r n : ℕ) (e : r ≡ refusa
   ready = accepted-ready F X method s (methodBy method n) asked
 
   module _ (ws : List ℕ) (t : Tally) (te : t ≡ talliedBy (placeAfter F X mark) (settledBy F X (methodBy method n) mark) 0 ws) where
-    pub fewer-missing : t .missing ≤ t .marked
-    fewer-missing = fewer F X (methodBy method n) mark ready ws t te
+    pub fewer-sums : (t .missing ≤ t .marked) × (t .risen ≤ t .changed)
+    fewer-sums = fewer F X (methodBy method n) mark ready ws t te
 
     pub accepted-call : (ys : List ℕ) → ys ≡ walkedBy (placeAfter F X mark) (settledBy F X (methodBy method n) mark) 0 ws
-        → (accepted (record { changed-places = t .changed; spared-places = t .marked - t .missing; clipped-places = t .clipped; missing-places = t .missing }) ≡ trim F X method s mark ws .answer)
+        → (accepted (countsOf t) ≡ trim F X method s mark ws .answer)
         × (ys ≡ trim F X method s mark ws .readings)
     accepted-call ys ye = (
       ap accepted (counts-are F X (methodBy method n) mark ready ws t te) ∙ sym (answer-is F X method s mark ws (methodBy method n) asked),

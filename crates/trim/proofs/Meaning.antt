@@ -1,16 +1,18 @@
--- A walk by a method is document 01's trim of an array, and its sums are the four counts. For every width.
+-- A walk by a method is the documents' trim of an array, and its sums give the six counts. For every width.
 use mathlib.Core.Path.{_≡_, refl, ap, ap₂, _∙_}
 use mathlib.Core.Bool.{Bool, cond}
 use mathlib.Core.List.{List, [], _∷_}
 use Prim.Native.Nat.{ℕ, _+_, _-_, _≤_}
 use native.Mathlib.Omega.{arith}
 use Rattle.meaning.specs.Readings.{missing}
-use Rattle.meaning.specs.Methods.{Method, placeAfter, trimFrom, countFrom, changed, spared, clipped, counts}
+use Rattle.meaning.specs.Methods.{Method, placeAfter, trimFrom, countFrom, changed, spared, clipped, risen, fallen, counts}
+use Rattle.meaning.proofs.Moves.{counts-sum}
 use Rattle.meaning.proofs.Accepted.{Ready}
 use Rattle.reading.specs.Left.{Tally, settledFrom, settledBy}
-use Rattle.reading.proofs.Counted.{left-is, changed-is, marked-is, clipped-is}
+use Rattle.reading.proofs.Counted.{left-is, changed-is, marked-is, clipped-is, risen-is}
 use Rattle.loops.specs.Tallies.{none, plus}
 use Rattle.loops.specs.Walk.{walkedBy, talliedBy}
+use Rattle.trim.specs.Answers.{countsOf}
 
 module _ (F X : ℕ) (x : Method) (mark : ℕ) where
   -- a count in a walk's sums
@@ -56,11 +58,20 @@ module _ (F X : ℕ) (x : Method) (mark : ℕ) where
       unfolding settledBy settledFrom
       marked-sum = ap (λ (s : Tally). s .marked) e ∙ sum-both (spared F X x mark) (λ place w. missing mark w) (λ place w. marked-is F X x r mark place w) 0 ws
 
-      pub fewer : t .missing ≤ t .marked
-      fewer = omega (arith, missing-sum, marked-sum)
+      risen-sum : t .risen ≡ countFrom F X (risen F X x mark) mark 0 ws
+      unfolding plus settledBy settledFrom
+      risen-sum = ap (λ (s : Tally). s .risen) e ∙ sum-count (λ s. s .risen) refl (λ s u. refl) (risen F X x mark) (λ place w. risen-is F X x r mark place w) 0 ws
 
-      pub counts-are : record { changed-places = t .changed; spared-places = t .marked - t .missing; clipped-places = t .clipped; missing-places = t .missing } ≡ counts F X x mark ws
+      both-sum : t .changed ≡ t .risen + countFrom F X (fallen F X x mark) mark 0 ws
+      unfolding counts
+      both-sum = omega (arith, changed-sum, risen-sum, counts-sum F X x r mark ws)
+
+      pub fewer : (t .missing ≤ t .marked) × (t .risen ≤ t .changed)
+      fewer = (omega (arith, missing-sum, marked-sum), omega (arith, both-sum))
+
+      pub counts-are : countsOf t ≡ counts F X x mark ws
       unfolding counts
       counts-are =
           let spared-sum : t .marked - t .missing ≡ countFrom F X (spared F X x mark) mark 0 ws = omega (arith, marked-sum, missing-sum) in
-          rw (changed-sum, spared-sum, clipped-sum, missing-sum) refl
+          let fallen-sum : t .changed - t .risen ≡ countFrom F X (fallen F X x mark) mark 0 ws = omega (arith, both-sum) in
+          rw (fallen-sum, changed-sum, spared-sum, clipped-sum, missing-sum, risen-sum) refl

@@ -8,7 +8,8 @@ use lib.Pow.{pow-pos, pow-mono}
 use Rattle.meaning.specs.Readings.{magnitude, finite}
 use Rattle.reading.specs.Left.{settledFrom}
 use Rattle.reading.specs.Tails.{nearWord, roundWord, roundOver}
-use Rattle.reading.proofs.Tails.{half-positive, wrapped, settled-round}
+use Rattle.reading.proofs.Tails.{half-positive, settled-round}
+use Rattle.reading.proofs.Wraps.{wrapped}
 use Rattle.double.specs.Left.{settledOf, constantsOf}
 use Rattle.double.proofs.round_double.Statement.{statement}
 use Rattle.double.proofs.round_double.Tie as tie
@@ -31,7 +32,7 @@ add-below-double c =
 
 words : (c : tie.After-settle-double)
     → let s = c .before .before .before .before .before .before .before .before .before .before .args in
-    settledOf (c .settle-double .result) ≡ settledFrom (s .mark) (s .x) (roundWord 52 11 (constantsOf (s .tail)) (s .x)) (roundOver 52 11 (constantsOf (s .tail)) (s .x))
+    settledOf (c .settle-double .result) ≡ settledFrom 52 11 (s .mark) (s .x) (roundWord 52 11 (constantsOf (s .tail)) (s .x)) (roundOver 52 11 (constantsOf (s .tail)) (s .x))
 unfolding roundWord roundOver nearWord finite magnitude
 words c =
     let s = c .before .before .before .before .before .before .before .before .before .before in

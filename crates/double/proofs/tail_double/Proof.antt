@@ -24,7 +24,7 @@ add-y c =
 
 words : (c : tie.After-settle-double)
     → let s = c .before .before .before .before .args in
-    settledOf (c .settle-double .result) ≡ settledFrom (s .mark) (s .x) (tailWord 52 11 (constantsOf (s .tail)) (s .add) (s .x)) 0
+    settledOf (c .settle-double .result) ≡ settledFrom 52 11 (s .mark) (s .x) (tailWord 52 11 (constantsOf (s .tail)) (s .add) (s .x)) 0
 unfolding tailWord finite magnitude
 words c = c .settle-double .ensures ∙ simp (c .before .below-double .ensures, c .before .before .unless-zero .ensures .0)
 

@@ -1,6 +1,6 @@
 use borrow.Author.Needs.{needs}
 use Rattle.form.specs.Form.{bytes}
-use Rattle.listing.proofs.Pieces.{header-room, counts-room, output-laid}
+use Rattle.listing.proofs.Pieces.{heading-room, counts-room, output-laid}
 use Rattle.listing.proofs.put_output.Statement.{statement}
 use Rattle.listing.proofs.put_output.Tie as tie
 
@@ -18,7 +18,7 @@ unfolding bytes
 put-bytes-requires-2 c κs =
     let at = c .before .before .before .before in
     let s = at .before .before .before .before .before .before .before .before .before .before in
-    header-room (s .args .out .now) (s .args .names .now) _ _ _ (s .pre .0) (s .pre .1 .0) _ _ (at .before .before .before .before .put-bytes .ensures) _ _ (at .put-lines .ensures)
+    heading-room (s .args .out .now) (s .args .names .now) _ _ _ (s .pre .0) (s .pre .1 .0) _ _ (at .before .before .before .before .put-bytes .ensures) _ _ (at .put-lines .ensures)
 
 put-bytes-requires-3 : tie.Need-put-bytes-requires-3
 unfolding bytes

@@ -8,7 +8,8 @@ use lib.Pow.{pow-pos, pow-mono}
 use Rattle.meaning.specs.Readings.{magnitude, finite}
 use Rattle.reading.specs.Left.{settledFrom}
 use Rattle.reading.specs.Tails.{nearWord, roundWord, roundOver}
-use Rattle.reading.proofs.Tails.{half-positive, wrapped, settled-round}
+use Rattle.reading.proofs.Tails.{half-positive, settled-round}
+use Rattle.reading.proofs.Wraps.{wrapped}
 use Rattle.single.specs.Left.{settledOf, constantsOf}
 use Rattle.single.proofs.round_single.Statement.{statement}
 use Rattle.single.proofs.round_single.Tie as tie
@@ -31,7 +32,7 @@ add-below-single c =
 
 words : (c : tie.After-settle-single)
     → let s = c .before .before .before .before .before .before .before .before .before .before .args in
-    settledOf (c .settle-single .result) ≡ settledFrom (s .mark) (s .x) (roundWord 23 8 (constantsOf (s .tail)) (s .x)) (roundOver 23 8 (constantsOf (s .tail)) (s .x))
+    settledOf (c .settle-single .result) ≡ settledFrom 23 8 (s .mark) (s .x) (roundWord 23 8 (constantsOf (s .tail)) (s .x)) (roundOver 23 8 (constantsOf (s .tail)) (s .x))
 unfolding roundWord roundOver nearWord finite magnitude
 words c =
     let s = c .before .before .before .before .before .before .before .before .before .before in

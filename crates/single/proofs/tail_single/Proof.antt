@@ -24,7 +24,7 @@ add-y c =
 
 words : (c : tie.After-settle-single)
     → let s = c .before .before .before .before .args in
-    settledOf (c .settle-single .result) ≡ settledFrom (s .mark) (s .x) (tailWord 23 8 (constantsOf (s .tail)) (s .add) (s .x)) 0
+    settledOf (c .settle-single .result) ≡ settledFrom 23 8 (s .mark) (s .x) (tailWord 23 8 (constantsOf (s .tail)) (s .add) (s .x)) 0
 unfolding tailWord finite magnitude
 words c = c .settle-single .ensures ∙ simp (c .before .below-single .ensures, c .before .before .unless-zero .ensures .0)
 

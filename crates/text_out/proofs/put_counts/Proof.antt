@@ -1,59 +1,66 @@
-use native.Mathlib.Omega.{arith}
+use Prim.Native.Nat.{_-_}
 use borrow.Author.Needs.{needs}
-use Rattle.text_out.proofs.LaidLaws.{counted-start, counted-room, counted-more, counted-done}
+use lib.ListN.{length}
+use Rattle.text_out.proofs.LaidLaws.{laid-long, CountsTurn, counts-start, counts-room, counts-turn, counts-done}
 use Rattle.text_out.proofs.put_counts.Statement.{statement}
 use Rattle.text_out.proofs.put_counts.Tie as tie
 use Rattle.text_out.proofs.put_counts.Reads as reads
 use Rattle.text_out.proofs.put_counts.Lts as lts
 use Rattle.text_out.proofs.put_field.Reads as put-field-reads
 
-put-field-requires : tie.Need-put-field-requires
-put-field-requires c κs = search needs
+abbrev Inv-loop : tie.InvT-loop
+Inv-loop out₀ at counts i₀ p₀ out i p = CountsTurn out₀ at counts out i p
 
-put-field-requires-2 : tie.Need-put-field-requires-2
-put-field-requires-2 c κs =
-    let s = c .before .before .before .before .before .before in
-    let x0 = counted-start _ _ (s .pre .4) in
-    let x1 = counted-more _ _ _ _ _ _ x0 (omega arith) _ 3 _ _ (s .pre .0) (c .before .before .before .put-field .ensures) in
-    (s .pre .1, counted-room _ _ _ _ _ _ x1 (omega arith))
+abbrev μ-loop : tie.MeasureT-loop
+μ-loop out₀ at counts i₀ p₀ out i p = length counts - i
 
-put-field-requires-3 : tie.Need-put-field-requires-3
-put-field-requires-3 c κs =
-    let s = c .before .before .before .before .before .before .before .before .before .before in
-    let x0 = counted-start _ _ (s .pre .4) in
-    let x1 = counted-more _ _ _ _ _ _ x0 (omega arith) _ 3 _ _ (s .pre .0) (c .before .before .before .before .before .before .before .put-field .ensures) in
-    let x2 = counted-more _ _ _ _ _ _ x1 (omega arith) _ 2 _ _ (s .pre .1) (c .before .before .before .put-field2 .ensures) in
-    (s .pre .2, counted-room _ _ _ _ _ _ x2 (omega arith))
+loop-holds : tie.Need-loop-holds Inv-loop μ-loop
+loop-holds c = counts-start _ _ _ (c .before .before .pre .0) (c .before .before .pre .1)
 
-put-field-requires-4 : tie.Need-put-field-requires-4
-put-field-requires-4 c κs =
-    let s = c .before .before .before .before .before .before .before .before .before .before .before .before .before .before in
-    let x0 = counted-start _ _ (s .pre .4) in
-    let x1 = counted-more _ _ _ _ _ _ x0 (omega arith) _ 3 _ _ (s .pre .0) (c .before .before .before .before .before .before .before .before .before .before .before .put-field .ensures) in
-    let x2 = counted-more _ _ _ _ _ _ x1 (omega arith) _ 2 _ _ (s .pre .1) (c .before .before .before .before .before .before .before .put-field2 .ensures) in
-    let x3 = counted-more _ _ _ _ _ _ x2 (omega arith) _ 1 _ _ (s .pre .2) (c .before .before .before .put-field3 .ensures) in
-    (s .pre .3, counted-room _ _ _ _ _ _ x3 (omega arith))
+mul-put-field : tie.Need-mul-put-field Inv-loop μ-loop
+mul-put-field c = search needs
 
-same-length : tie.Need-same-length
-same-length c = search needs
+shared-slice-read-put-field : tie.Need-shared-slice-read-put-field Inv-loop μ-loop
+shared-slice-read-put-field c = search needs
 
-returns : tie.Need-returns
-returns c =
-    let s = c .before .before .before .before .before .before .before .before .before .before .before .before .before .before .before .before .before in
-    let x0 = counted-start _ _ (s .pre .4) in
-    let x1 = counted-more _ _ _ _ _ _ x0 (omega arith) _ 3 _ _ (s .pre .0) (c .before .before .before .before .before .before .before .before .before .before .before .before .before .before .put-field .ensures) in
-    let x2 = counted-more _ _ _ _ _ _ x1 (omega arith) _ 2 _ _ (s .pre .1) (c .before .before .before .before .before .before .before .before .before .before .put-field2 .ensures) in
-    let x3 = counted-more _ _ _ _ _ _ x2 (omega arith) _ 1 _ _ (s .pre .2) (c .before .before .before .before .before .before .put-field3 .ensures) in
-    let x4 = counted-more _ _ _ _ _ _ x3 (omega arith) _ 0 _ _ (s .pre .3) (c .before .before .put-field4 .ensures) in
-    counted-done _ _ _ _ _ _ _ _ x4
+sub-put-field : tie.Need-sub-put-field Inv-loop μ-loop
+sub-put-field c = search needs
+
+sub-put-field-2 : tie.Need-sub-put-field-2 Inv-loop μ-loop
+sub-put-field-2 c = search needs
+
+put-field-requires : tie.Need-put-field-requires Inv-loop μ-loop
+put-field-requires c κs = counts-room _ _ _ _ _ _ (c .before .before .before .loop .inv) (c .before .before .loop-test .taken)
+
+add-i : tie.Need-add-i Inv-loop μ-loop
+add-i c = search needs
+
+loop-less : tie.Need-loop-less Inv-loop μ-loop
+loop-less c = search needs
+
+loop-again : tie.Need-loop-again Inv-loop μ-loop
+loop-again c = counts-turn _ _ _ _ _ _ (c .before .before .before .before .before .before .loop .inv) (c .before .before .before .before .before .loop-test .taken) _ _ (c .before .before .put-field .ensures)
+
+same-length : tie.Need-same-length Inv-loop μ-loop
+same-length c = laid-long _ _ _ _ _ (c .before .loop .inv .laid)
+
+returns : tie.Need-returns Inv-loop μ-loop
+returns c = counts-done _ _ _ _ _ _ (c .before .loop .inv) (c .loop-test .left)
 
 pub put-counts-spec : {M : Type 1} → statement M
 put-counts-spec =
     tie.close
     (tie.spec
+    Inv-loop
+    μ-loop
+    loop-holds
+    mul-put-field
+    shared-slice-read-put-field
+    sub-put-field
+    sub-put-field-2
     put-field-requires
-    put-field-requires-2
-    put-field-requires-3
-    put-field-requires-4
+    add-i
+    loop-less
+    loop-again
     same-length
     returns)

@@ -1,5 +1,5 @@
 -- Refused or accepted, by the laws of `Loader`.
-use mathlib.Core.Path.{ap, _∙_}
+use mathlib.Core.Path.{ap, ap₂, _∙_}
 use Prim.Native.Nat.{ℕ, _+_}
 use native.Mathlib.Omega.{arith}
 use lib.IntN.{ℤ}
@@ -7,7 +7,7 @@ use mir.Facts.{toZ-ofZ}
 use Rattle.asking.specs.Asked.{refusalOf, askedNumber}
 use Rattle.single.specs.Left.{settledOf}
 use Rattle.trim.proofs.Calls.{single-fitting}
-use Rattle.trim.proofs.Loader.{refused-loader, accepted-loader}
+use Rattle.trim.proofs.Loader.{refused-loader, one-few, accepted-loader}
 use Rattle.trim.proofs.trim_single.Statement.{statement}
 use Rattle.trim.proofs.trim_single.Tie as tie
 
@@ -37,18 +37,29 @@ method-single-requires c κs =
     (a .ensures .0 ∙ ap (λ (z : ℤ). refusalOf 23 8 (s .args .method) z) (toZ-ofZ (s .fits .setting))) none
     (a .ensures .1 ∙ ap (λ (z : ℤ). askedNumber 23 8 (s .args .method) z) (toZ-ofZ (s .fits .setting)))
 
-wide-requires-2 : tie.Need-wide-requires-2
-wide-requires-2 c κs = tt
-
-returns-2 : tie.Need-returns-2
-returns-2 c =
+gain-requires : tie.Need-gain-requires
+gain-requires c κs =
     let s = c .before .before .before .before .before in
     let a = c .before .before .before .before .ask-single in
     let none = c .before .before .if1 .left in
-    c .wide2 .ensures
+    let one = c .before .method-single in
+    one-few (s .args .method) (s .args .setting) (s .args .mark) (s .args .place) (s .args .x) (a .result .refusal)
+    (a .ensures .0 ∙ ap (λ (z : ℤ). refusalOf 23 8 (s .args .method) z) (toZ-ofZ (s .fits .setting))) none (a .result .number)
+    (a .ensures .1 ∙ ap (λ (z : ℤ). askedNumber 23 8 (s .args .method) z) (toZ-ofZ (s .fits .setting))) (settledOf (one .result)) (one .ensures)
+
+add-result-2 : tie.Need-add-result-2
+add-result-2 c = omega (arith, c .gain .ensures .1)
+
+returns-2 : tie.Need-returns-2
+returns-2 c =
+    let s = c .before .before .before .before .before .before in
+    let a = c .before .before .before .before .before .ask-single in
+    let none = c .before .before .before .if1 .left in
+    let one = c .before .before .method-single in
+    ap₂ (λ (p g : ℕ). p + g) (c .before .wide2 .ensures) (c .gain .ensures .0)
     ∙ accepted-loader (s .args .method) (s .args .setting) (s .args .mark) (s .args .place) (s .args .x) (a .result .refusal)
     (a .ensures .0 ∙ ap (λ (z : ℤ). refusalOf 23 8 (s .args .method) z) (toZ-ofZ (s .fits .setting))) none (a .result .number)
-    (a .ensures .1 ∙ ap (λ (z : ℤ). askedNumber 23 8 (s .args .method) z) (toZ-ofZ (s .fits .setting))) (settledOf (c .before .method-single .result)) (c .before .method-single .ensures)
+    (a .ensures .1 ∙ ap (λ (z : ℤ). askedNumber 23 8 (s .args .method) z) (toZ-ofZ (s .fits .setting))) (settledOf (one .result)) (one .ensures)
 
 pub trim-single-spec : {M : Type 1} → statement M
 trim-single-spec =
@@ -59,5 +70,7 @@ trim-single-spec =
     add-result
     returns
     method-single-requires
-    wide-requires-2
+    (λ c κs. tt)
+    gain-requires
+    add-result-2
     returns-2)

@@ -1,13 +1,12 @@
 -- Refused or accepted, by the laws of `Calls`.
 use borrow.Author.Needs.{needs}
 use mathlib.Core.Path.{ap, _∙_}
-use Prim.Native.Nat.{_-_}
 use lib.IntN.{ℤ}
 use mir.Facts.{toZ-ofZ}
 use Rattle.asking.specs.Asked.{refusalOf, askedNumber}
 use Rattle.loops.specs.Tallies.{totalsOf}
 use Rattle.trim.specs.Answers.{answerOf}
-use Rattle.trim.proofs.Calls.{refused-call, single-fitting, fewer-missing, accepted-call}
+use Rattle.trim.proofs.Calls.{refused-call, single-fitting, fewer-sums, accepted-call}
 use Rattle.trim.proofs.trim_singles.Statement.{statement}
 use Rattle.trim.proofs.trim_singles.Tie as tie
 
@@ -31,31 +30,29 @@ method-singles-requires c κs =
     (a .ensures .0 ∙ ap (λ (z : ℤ). refusalOf 23 8 (s .args .method) z) (toZ-ofZ (s .fits .setting))) none
     (a .ensures .1 ∙ ap (λ (z : ℤ). askedNumber 23 8 (s .args .method) z) (toZ-ofZ (s .fits .setting)))
 
-sub-t10 : tie.Need-sub-t10
-sub-t10 c =
-    let s = c .before .before .before .before .before .before .before .before .before in
-    let a = c .before .before .before .before .before .before .before .ask-single in
-    let none = c .before .before .before .before .before .if1 .left in
-    let m = c .before .before .before .method-singles in
-    fewer-missing 23 8 (s .args .method) (s .args .setting) (s .args .mark) (a .result .refusal) (a .result .number)
+counted-requires : tie.Need-counted-requires
+counted-requires c κs =
+    let s = c .before .before .before .before .before .before .before .before in
+    let a = c .before .before .before .before .before .before .ask-single in
+    let none = c .before .before .before .before .if1 .left in
+    let m = c .before .before .method-singles in
+    fewer-sums 23 8 (s .args .method) (s .args .setting) (s .args .mark) (a .result .refusal) (a .result .number)
     (a .ensures .0 ∙ ap (λ (z : ℤ). refusalOf 23 8 (s .args .method) z) (toZ-ofZ (s .fits .setting))) none
     (a .ensures .1 ∙ ap (λ (z : ℤ). askedNumber 23 8 (s .args .method) z) (toZ-ofZ (s .fits .setting)))
     (s .args .readings .now) (totalsOf (m .result)) (m .ensures .0)
 
-same-length : tie.Need-same-length
-same-length c = search needs
-
 returns-2 : tie.Need-returns-2
-unfolding answerOf
 returns-2 c =
     let s = c .before .before .before .before .before .before .before .before .before in
     let a = c .before .before .before .before .before .before .before .ask-single in
     let none = c .before .before .before .before .before .if1 .left in
     let m = c .before .before .before .method-singles in
+    let call =
     accepted-call 23 8 (s .args .method) (s .args .setting) (s .args .mark) (a .result .refusal) (a .result .number)
     (a .ensures .0 ∙ ap (λ (z : ℤ). refusalOf 23 8 (s .args .method) z) (toZ-ofZ (s .fits .setting))) none
     (a .ensures .1 ∙ ap (λ (z : ℤ). askedNumber 23 8 (s .args .method) z) (toZ-ofZ (s .fits .setting)))
-    (s .args .readings .now) (totalsOf (m .result)) (m .ensures .0) (m .last .0) (m .ensures .1)
+    (s .args .readings .now) (totalsOf (m .result)) (m .ensures .0) (m .last .0) (m .ensures .1) in
+    (c .counted .ensures ∙ call .0, call .1)
 
 pub trim-singles-spec : {M : Type 1} → statement M
-trim-singles-spec = tie.close (tie.spec ask-single-requires returns method-singles-requires sub-t10 same-length returns-2)
+trim-singles-spec = tie.close (tie.spec ask-single-requires returns method-singles-requires counted-requires (λ c. search needs) returns-2)

@@ -7,4 +7,4 @@ use Rattle.loops.proofs.Sums.plus.Tie as tie
 
 pub plus-spec : {M : Type 1} → statement M
 unfolding plus
-plus-spec = tie.close (tie.spec (λ c. search needs) (λ c. search needs) (λ c. search needs) (λ c. search needs) (λ c. refl))
+plus-spec = tie.close (tie.spec (λ c. search needs) (λ c. search needs) (λ c. search needs) (λ c. search needs) (λ c. search needs) (λ c. refl))

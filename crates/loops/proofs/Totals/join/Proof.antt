@@ -17,4 +17,6 @@ join-spec =
     (λ c. search needs)
     (λ c κs. tt)
     (λ c. search needs)
-    (λ c. simp (c .before .wide4 .ensures, c .before .before .before .wide3 .ensures, c .before .before .before .before .before .wide2 .ensures, c .before .before .before .before .before .before .before .wide .ensures)))
+    (λ c κs. tt)
+    (λ c. search needs)
+    (λ c. simp (c .before .wide5 .ensures, c .before .before .before .wide4 .ensures, c .before .before .before .before .before .wide3 .ensures, c .before .before .before .before .before .before .before .wide2 .ensures, c .before .before .before .before .before .before .before .before .before .wide .ensures)))
