@@ -44,7 +44,7 @@ module _ (F X : ℕ) where
       go (no l) = absurd (omega (arith, h, position-minus F X v a, position-minus F X w b, size-le F {m = magnitude F X w} {n = magnitude F X v} (omega arith)))
 
   -- the same sign and magnitude make the same pattern
-  same-magnitude : (v w : ℕ) → sign F X v ≡ sign F X w → magnitude F X v ≡ magnitude F X w → v ≡ w
+  pub same-magnitude : (v w : ℕ) → sign F X v ≡ sign F X w → magnitude F X v ≡ magnitude F X w → v ≡ w
   same-magnitude v w s m = sym (pattern-back F X v) ∙ rw (s, m) (pattern-back F X w)
 
   apart : (v w : ℕ) → sign F X v ≡ sign F X w → magnitude F X v < infinity F X → magnitude F X w < infinity F X → v ≢ w → position F X v ≢ position F X w

@@ -11,8 +11,7 @@ use borrow.Author.Tests.{eq-eqb, ne-eqb, lt-ltb, le-ltb}
 use lib.Bits.{bitAnd, and-zero-l}
 use lib.Dec.{eqb, ltb}
 use Rattle.meaning.specs.Readings.{sign, magnitude, infinity, position}
-use Rattle.meaning.proofs.Patterns.{pattern-back}
-use Rattle.meaning.proofs.Moves.{higher, lower}
+use Rattle.meaning.proofs.Moves.{higher, lower, same-magnitude}
 use Rattle.reading.specs.Left.{roseFrom}
 use Rattle.reading.proofs.Wraps.{top-bit}
 
@@ -50,9 +49,6 @@ module _ (F X : ℕ) where
   unfolding roseFrom
   rose-is x p s fx fp = go (ℕ-discrete p x) (ℕ-discrete (sign F X p) 0) (decLt (magnitude F X x) (magnitude F X p))
     where
-      back : magnitude F X x ≡ magnitude F X p → p ≡ x
-      back m = sym (pattern-back F X p) ∙ rw (s, sym m) (pattern-back F X x)
-
       go : Dec (p ≡ x) → Dec (sign F X p ≡ 0) → Dec (magnitude F X x < magnitude F X p) → roseFrom F X x p ≡ cond (ltb (position F X x) (position F X p)) 1 0
       go (yes e) z l = rw e (rose-stays x)
       go (no e) (yes z) (yes l) =
@@ -61,10 +57,10 @@ module _ (F X : ℕ) where
           let h = lower F X x p (λ y. z (s ∙ y)) z fp l in
           rw (ne-eqb p x e, ne-eqb (sign F X p) 0 z, lt-ltb (magnitude F X x) (magnitude F X p) l, le-ltb (position F X x) (position F X p) (omega (arith, h))) refl
       go (no e) (yes z) (no l) =
-          let n : magnitude F X x ≢ magnitude F X p = λ m. e (back m) in
+          let n : magnitude F X x ≢ magnitude F X p = λ m. e (same-magnitude F X p x s (sym m)) in
           let h = higher F X p x z (sym s ∙ z) (omega (arith, n)) in
           rw (ne-eqb p x e, eq-eqb (sign F X p) 0 z, le-ltb (magnitude F X x) (magnitude F X p) (omega arith), le-ltb (position F X x) (position F X p) (omega (arith, h))) refl
       go (no e) (no z) (no l) =
-          let n : magnitude F X x ≢ magnitude F X p = λ m. e (back m) in
+          let n : magnitude F X x ≢ magnitude F X p = λ m. e (same-magnitude F X p x s (sym m)) in
           let h = lower F X p x z (λ y. z (s ∙ y)) fx (omega (arith, n)) in
           rw (ne-eqb p x e, ne-eqb (sign F X p) 0 z, le-ltb (magnitude F X x) (magnitude F X p) (omega arith), lt-ltb (position F X x) (position F X p) h) refl
