@@ -1,5 +1,6 @@
 /* Times each trim of two builds of the library in one run, on a million readings, and prints ns a reading before and after, and their ratio. Both must leave the same
- * patterns and give the same counts, of which a build before version 2 has four. The builds are two shared libraries, the earlier one first. */
+ * patterns and give the same counts, of which a build before version 2 has four; but for groom where one of them goes by places, as before version 2.1. The builds are two
+ * shared libraries, the earlier one first. */
 #include "clock.h"
 #include "trims.h"
 #include <dlfcn.h>
@@ -7,7 +8,7 @@
 #include <stdlib.h>
 #include <string.h>
 
-enum { READINGS = 1000000, TURNS = 100 };
+enum { READINGS = 1000000, TURNS = 100, GROOM = 2 };
 
 typedef uint32_t trim_singles(uint32_t *, size_t, uint32_t, int32_t, uint32_t, uint64_t *);
 typedef uint32_t trim_doubles(uint64_t *, size_t, uint32_t, int32_t, uint64_t, uint64_t *);
@@ -20,6 +21,14 @@ static void *sought(const char *path, const char *what) {
     if (!found)
         fprintf(stderr, "compare: %s\n", dlerror()), exit(1);
     return found;
+}
+
+/* Whether a build grooms by turns, as from version 2.1 on: then of pi, a missing reading and pi the last is set. */
+static int by_turns(int which) {
+    uint32_t station[] = {0x40490FDB, mark32, 0x40490FDB};
+    uint64_t counts[8];
+    singles[which](station, 3, GROOM, KEEP, mark32, counts);
+    return station[2] == 0x4049FFFF;
 }
 
 /* Air and rain: 0 to 100, half of them below zero, one in 50 zero and one in 20 missing. */
@@ -64,9 +73,10 @@ int main(int argc, char **argv) {
                         best[which] = took;
                 }
             size_t given = counts[0][4] + counts[0][5] == counts[0][0] ? 6 : 4;
-            if (memcmp(to[0], to[1], bytes) || memcmp(counts[0], counts[1], given * sizeof counts[0][0]))
+            int differ = memcmp(to[0], to[1], bytes) || memcmp(counts[0], counts[1], given * sizeof counts[0][0]);
+            if (differ && (method != GROOM || by_turns(0) == by_turns(1)))
                 return printf("compare: %s differs\n", name[method]), 1;
-            printf("  %-9s %5.2f %5.2f %5.2f\n", name[method], best[0], best[1], best[1] / best[0]);
+            printf("  %-9s %5.2f %5.2f %5.2f%s\n", name[method], best[0], best[1], best[1] / best[0], differ ? "  (other patterns)" : "");
         }
         free(from), free(to[0]), free(to[1]);
     }

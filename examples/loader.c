@@ -18,6 +18,11 @@ static float value(uint32_t bits) {
     return reading;
 }
 
+/* Whether a reading takes a turn when it is groomed: it is present and finite. */
+static int takes_turn(uint32_t bits, uint32_t mark) {
+    return bits != mark && (bits & 0x7F800000) != 0x7F800000;
+}
+
 int main(void) {
     const uint32_t mark = 0x7CF00000; /* the network's mark for a missing reading */
 
@@ -27,6 +32,15 @@ int main(void) {
     if (above == 1)
         return printf("refused, %" PRIu32 "\n", half), 1;
     printf("one reading: %08" PRIX32 ", %.7g, %s\n", half, value(half), above == 2 ? "rose" : above == 4 ? "fell" : "stayed");
+
+    /* Readings of a station that reports every second slot, groomed one by one: the first is shaved, the next set. The turn goes on only behind a
+     * reading that is present and finite. */
+    const uint32_t slots[] = {pattern(3.14159274f), mark, pattern(3.14159274f), mark};
+    uint64_t turn = 0;
+    for (size_t i = 0; i < sizeof slots / sizeof *slots; i++) {
+        printf("slot %zu: %08" PRIX32 "\n", i, (uint32_t)megharutti_trim_single(slots[i], MEGHARUTTI_GROOM, 7, mark, turn));
+        turn += takes_turn(slots[i], mark);
+    }
 
     /* An array, to the nearest eighth. */
     uint32_t rain[] = {pattern(0.0f), pattern(0.2f), mark, pattern(12.3f), pattern(3.4e38f)};

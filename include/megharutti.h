@@ -1,10 +1,12 @@
 /* Megharutti: trims false precision from IEEE 754 singles and doubles, and packs singles into layers of 16-bit codes.
  *
- * Every call below is proved to give, for every input, what document 01 of the association defines, with request (a) of its document 02. What
- * is proved and what is assumed of the caller stands in docs/PROOFS.md.
+ * Every call below is proved to give, for every input, what document 01 of the association defines, with requests (a) and (b) of its document
+ * 02. What is proved and what is assumed of the caller stands in docs/PROOFS.md.
  *
  * Coming from version 1: the array for the counts has six elements and not four, so enlarge it, or the call writes behind it; and the answer of
  * megharutti_trim_single says more, so take (uint32_t)answer for the pattern, and answer >> 32 == 1 for a refusal.
+ * Coming from any version before 2.1, where you groom: arrays get other patterns wherever something is missing or not finite, and the last argument
+ * of megharutti_trim_single is the turn and no longer the place. No compiler warns of that. The other methods give what they gave.
  *
  * A reading is the bit pattern of a float, in a uint32_t (single) or a uint64_t (double). The mark is the pattern that means missing. It is
  * compared by its bits, and any pattern may be the mark.
@@ -12,11 +14,17 @@
  *   method          setting
  *   0 shave         keep bits, 0 to 23 (doubles: 0 to 52)
  *   1 set           keep bits
- *   2 groom         keep bits; shaves at places 0, 2, 4 .. and sets at places 1, 3, 5 ..
+ *   2 groom         keep bits; shaves and sets in turns, see below
  *   3 halfshave     keep bits
  *   4 round         keep bits
  *   5 absolute      p, to the nearest multiple of 2^p; -149 to 127 (doubles: -1074 to 1023)
  *   6 digits        significant decimal digits, 1 to 7 (doubles: 1 to 15)
+ *
+ * Grooming takes turns among the readings that are present and finite: the first of an array is shaved, the next set, and so on; each call begins
+ * with a shave. A zero and a spared reading (one whose trimmed pattern would be the mark, so that it stays) take a turn too; a missing reading, an
+ * infinity and a NaN don't. In C a single takes a turn where
+ *     reading != mark && (reading & 0x7F800000) != 0x7F800000
+ * before it is trimmed or after, which is the same. examples/loader.c counts turns so.
  *
  * A layer is a run of `length` singles. Packed, it is a reference R (its smallest value, a single), a step exponent E from -149 to 114, and
  * a code for each reading: reading less R, in steps of 2^E, to the nearest. The code 65535 means missing. E is the least exponent with
@@ -41,7 +49,7 @@
  * megharutti_pack and by megharutti_unpack. For these the caller sees to it that the processor rounds to nearest (fesetround) and traps no
  * float exception (feenableexcept), as a C program begins; they may raise exception flags. All else goes by whole numbers. A program may be
  * linked with gcc's -ffast-math or -Ofast: whether subnormal numbers are taken for zero changes nothing. But compiled so, C's isnan finds no
- * NaN: tell a missing double by its pattern, which is the mark's.
+ * NaN and its isfinite no infinity: tell a missing double by its pattern, which is the mark's, and who takes a turn by the line above.
  */
 #ifndef MEGHARUTTI_H
 #define MEGHARUTTI_H
@@ -50,7 +58,7 @@
 #include <stdint.h>
 
 /* The version of this header, of the library and of the program trimlist. */
-#define MEGHARUTTI_VERSION "2.0.0"
+#define MEGHARUTTI_VERSION "2.1.0"
 
 #ifdef __cplusplus
 extern "C" {
@@ -89,10 +97,11 @@ enum megharutti_answer {
 uint32_t megharutti_trim_singles(uint32_t *readings, size_t n, uint32_t method, int32_t setting, uint32_t mark, uint64_t counts[6]);
 uint32_t megharutti_trim_doubles(uint64_t *readings, size_t n, uint32_t method, int32_t setting, uint64_t mark, uint64_t counts[6]);
 
-/* Trims one single as megharutti_trim_singles would at that place of an array. The lower 32 bits of the answer are the pattern that is left.
- * Above them stands 0 where the exact value stayed, 2 where it rose and 4 where it fell (2^33 or 2^34 was added); or 1 where the call is
- * refused, and then the lower 32 bits are the refusal's number. Only the parity of the place matters. */
-uint64_t megharutti_trim_single(uint32_t reading, uint32_t method, int32_t setting, uint32_t mark, uint64_t place);
+/* Trims one single as megharutti_trim_singles would in an array, where `turn` present finite readings came before it. Grooming alone looks at
+ * the turn, and at whether it is odd. The lower 32 bits of the answer are the pattern that is left. Above them stands 0 where the exact value
+ * stayed, 2 where it rose and 4 where it fell (2^33 or 2^34 was added); or 1 where the call is refused, and then the lower 32 bits are the
+ * refusal's number. */
+uint64_t megharutti_trim_single(uint32_t reading, uint32_t method, int32_t setting, uint32_t mark, uint64_t turn);
 
 /* Packs n readings into layers of `length`. Answers 0 and writes n codes, and a reference and an exponent for each of the n / length layers;
  * or answers the refusal's number, 3 to 6. The lengths that follow are n for the codes, and n / length for references and exponents. */

@@ -54,9 +54,34 @@ int main(void) {
     check("doubles risen after a refusal", counts[4], 2);
     check("doubles fallen after a refusal", counts[5], 1);
 
+    /* a station that reports every second slot is shaved and set in turns; zeros take one, missing readings, infinities and NaNs don't */
+    const uint32_t slots[12] = {pi, mark, pi, mark, pi, mark, 0x80000000, 0x7F800000, pi, 0x7FC00001, pi, pi};
+    const uint32_t turned[12] = {0x40490000, mark, 0x4049FFFF, mark, 0x40490000, mark, 0x80000000, 0x7F800000, 0x40490000, 0x7FC00001, 0x4049FFFF, 0x40490000};
+    uint32_t station[12];
+    uint64_t turn = 0;
+    for (int i = 0; i < 12; i++)
+        station[i] = slots[i];
+    check("a station groomed", megharutti_trim_singles(station, 12, 2, 7, mark, counts), 0);
+    for (int i = 0; i < 12; i++) {
+        check("a reading of the station", station[i], turned[i]);
+        check("the same alone at its turn", (uint32_t)megharutti_trim_single(slots[i], 2, 7, mark, turn), turned[i]);
+        turn += slots[i] != mark && (slots[i] & 0x7FFFFFFF) < 0x7F800000;
+    }
+    check("turns of the station", turn, 7);
+    check("the station's readings changed", counts[0], 6);
+    check("the station's missing readings", counts[3], 3);
+    check("the station's readings set", counts[4], 2);
+    check("the station's readings shaved", counts[5], 4);
+    uint64_t slow[5] = {0xFFF0000000000000, 0x400921FB54442D18, 0, 0x7FF0000000000001, 0x400921FB54442D18};
+    check("doubles groomed", megharutti_trim_doubles(slow, 5, 2, 7, 0, counts), 0);
+    check("the first double shaved", slow[1], 0x4009200000000000);
+    check("the second double set", slow[4], 0x40093FFFFFFFFFFF);
+
     /* 2^33 is 200000000 in hexadecimal, for a rise, and 2^34 is 400000000, for a fall */
-    check("groomed at an even place", megharutti_trim_single(pi, 2, 7, mark, 0), 0x440490000);
-    check("groomed at an odd place", megharutti_trim_single(pi, 2, 7, mark, 0xFFFFFFFFFFFFFFFF), 0x24049FFFF);
+    check("groomed at an even turn", megharutti_trim_single(pi, 2, 7, mark, 0), 0x440490000);
+    check("groomed at an odd turn", megharutti_trim_single(pi, 2, 7, mark, 0xFFFFFFFFFFFFFFFF), 0x24049FFFF);
+    check("groomed at an even turn beyond 2^63", megharutti_trim_single(pi, 2, 7, mark, 0x8000000000000000), 0x440490000);
+    check("groomed at an odd turn beyond 2^32", megharutti_trim_single(pi, 2, 7, mark, 0x100000001), 0x24049FFFF);
     check("-pi shaved, a rise", megharutti_trim_single(0xC0490FDB, 0, 7, mark, 0), 0x2C0490000);
     check("-pi set, a fall", megharutti_trim_single(0xC0490FDB, 1, 7, mark, 0), 0x4C049FFFF);
     check("-0.5 to -0, a rise", megharutti_trim_single(0xBF000000, 5, 0, mark, 0), 0x280000000);

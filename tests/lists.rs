@@ -55,9 +55,9 @@ pub struct Width {
 impl Width {
     pub fn both() -> [Width; 2] {
         [
-            Width { name: "doubles", trims: "doubles: trims of a list", claims: "doubles: demand 3", lists: 4500, least: [3000, 200_000],
+            Width { name: "doubles", trims: "doubles: trims of a list", claims: "doubles: demand 3", lists: 5000, least: [3000, 200_000],
                 form: Form::new(52, 11) },
-            Width { name: "singles", trims: "singles: trims of a list", claims: "singles: demand 3, no packing", lists: 1500,
+            Width { name: "singles", trims: "singles: trims of a list", claims: "singles: demand 3, no packing", lists: 1700,
                 least: [1000, 50_000], form: Form::new(23, 8) },
         ]
     }
@@ -205,13 +205,14 @@ fn mark(t: &mut Tally, w: &Width, about: &About, calls: &[Call]) -> u64 {
 
 /// What the model says that an accepted call leaves, and its counts.
 fn modelled(w: &Width, now: &[u64], mark: u64, (method, setting): Call) -> (Vec<u64>, Vec<u64>) {
-    let mut counts = vec![0; 6];
-    let place = |(i, &old): (usize, &u64)| {
-        let (new, counted) = left(old, w.form.own(method, setting, old, i % 2 == 1), mark);
+    let (mut counts, mut turn) = (vec![0; 6], 0);
+    let place = |&old: &u64| {
+        let (new, counted) = left(old, w.form.own(method, setting, old, turn % 2 == 1), mark);
         (0..6).for_each(|c| counts[c] += counted[c] as u64);
+        turn += w.form.takes_turn(old, mark) as u64;
         new
     };
-    (now.iter().enumerate().map(place).collect(), counts)
+    (now.iter().map(place).collect(), counts)
 }
 /// One call on the array as the last one left it, compared with the model. Answers what the library left, and its counts if it accepted.
 fn trim<P: Pattern>(t: &mut Tally, w: &Width, now: &[u64], mark: u64, call: Call) -> (Vec<u64>, Option<[u64; 6]>) {
@@ -238,7 +239,10 @@ fn list<P: Pattern>(t: &mut Tally, w: &Width) -> List {
     let calls = calls(t, w, &about);
     let mark = mark(t, w, &about, &calls);
     let n = if t.below(500) == 0 { LONG } else { t.pick(&[0, 1, 2, 5, 17, 64, 100, 200, 200]) };
-    let began: Vec<u64> = (0..n).map(|_| reading(t, w, &about, mark)).collect();
+    let mut began: Vec<u64> = (0..n).map(|_| reading(t, w, &about, mark)).collect();
+    // A station that reports every second slot.
+    let station = (t.below(6) == 0).then(|| t.below(2) as usize);
+    if let Some(from) = station { began.iter_mut().skip(from).step_by(2).for_each(|x| *x = mark); }
     let mut list = List { mark, calls: vec![], left: began.clone(), began, clipped: 0, spared: 0, risen: 0, fallen: 0 };
     for &call in &calls {
         let (now, counts) = trim::<P>(t, w, &list.left, mark, call);
@@ -315,6 +319,26 @@ fn meet_readings(t: &mut Tally, w: &Width, list: &List) {
     ];
     for (what, is) in met { w.met(t, what, list.began.iter().filter(|&&x| is(x)).count() as u64); }
 }
+/// Notes the grooms of a list, and the readings whose turn has another parity than their place. The turn is the same in each of the list's
+/// calls, since what takes none stays as it is and nothing becomes like it.
+fn meet_grooms(t: &mut Tally, w: &Width, list: &List) {
+    let grooms = list.calls.iter().filter(|call| call.0 == 2).count();
+    if grooms == 0 { return; }
+    let (mut turn, mut apart, mut idle) = (0, 0, 0);
+    for (i, &x) in list.began.iter().enumerate() {
+        let takes = x != list.mark && w.finite(x);
+        apart += (takes && turn % 2 != i % 2) as u64;
+        idle += (x != list.mark && !takes) as u64;
+        turn += takes as usize;
+    }
+    let station = |from| list.began.len() > 4 && list.began.iter().skip(from).step_by(2).all(|&x| x == list.mark);
+    w.met(t, "lists with grooms beside others", (grooms < list.calls.len()) as u64);
+    w.met(t, "lists with more than one groom", (grooms > 1) as u64);
+    w.met(t, "readings groomed at a turn unlike their place", apart);
+    w.met(t, "infinities and NaNs beside groomed readings", idle);
+    w.met(t, "groomed lists, even places missing", station(0) as u64);
+    w.met(t, "groomed lists, odd places missing", station(1) as u64);
+}
 /// Notes a list of one kind, and how many of its readings moved far.
 fn meet_list(t: &mut Tally, w: &Width, list: &List, half: u64) {
     let roundings = list.kind() == Roundings;
@@ -330,6 +354,7 @@ fn meet_list(t: &mut Tally, w: &Width, list: &List, half: u64) {
     w.met(t, "lists of shaves, sets, grooms, halfshaves", !roundings as u64);
     w.met(t, "lists of more than one accepted call", (list.calls.len() > 1) as u64);
     w.met(t, "lists of six accepted calls", (list.calls.len() == 6) as u64);
+    meet_grooms(t, w, list);
     w.met(t, if roundings { "half a unit or more off, roundings" } else { "half a unit or more off, shaves .." }, half);
 }
 /// Demand 3 about a list that was run.
@@ -374,7 +399,9 @@ pub fn wanted(w: &Width) -> Vec<(String, u64)> {
         "half a unit or more off, shaves ..", "lists with refused calls beside accepted ones", "lists with no accepted call",
         "lists of both kinds", "a unit or more off, both kinds", "a unit or more off, a set and then a round", "missing readings",
         "zeros that are present", "subnormals that are present", "readings in the last binade", "infinities that are present",
-        "NaNs that are present", "neighbours of the mark",
+        "NaNs that are present", "neighbours of the mark", "lists with grooms beside others", "lists with more than one groom",
+        "readings groomed at a turn unlike their place", "infinities and NaNs beside groomed readings",
+        "groomed lists, even places missing", "groomed lists, odd places missing",
     ];
     let named = |(what, least): (&str, u64)| (format!("{}: {what}", w.name), least);
     let counted = [("lists of one kind", w.least[0]), ("readings in them", w.least[1])];

@@ -12,6 +12,8 @@ const MOVES: [&str; 8] = ["rose, 0", "rose, 1", "fell, 0", "fell, 1", "rose to -
 const STAYS: [&str; 8] = ["spared up", "spared down", "missing up", "missing down", "stayed, 0", "stayed, 1", "infinity", "NaN"];
 /// The kinds of patterns.
 const KINDS: [&str; 8] = ["+0", "-0", "subnormal", "normal", "largest", "infinity", "quiet NaN", "other NaN"];
+/// The remainders of a reading's turn and of its place by 2, of present and of missing readings.
+const TURNS: [&str; 8] = ["0 at 0", "0 at 1", "1 at 0", "1 at 1", "gone 0 at 0", "gone 0 at 1", "gone 1 at 0", "gone 1 at 1"];
 /// What is counted by the kind of the mark. The last are zeros of the other sign, and other NaNs.
 const MARKS: [&str; 4] = ["calls", "missing", "spared", "mark's like"];
 
@@ -38,10 +40,11 @@ const TENS: [f64; 23] = [
 ];
 pub fn ten(form: &Form, m: u64) -> bool { TENS.contains(&if form.f == 23 { f32::from_bits(m as u32) as f64 } else { f64::from_bits(m) }) }
 
-type Counts = [[[u64; 8]; 8]; 3]; // by call, then by method or by what is counted of marks, then by column
+type Counts = [[[u64; 8]; 8]; 3]; // by call, then by method or by what else is counted, then by column
 pub struct Met {
     calls: [[[[u64; 3]; 3]; 8]; 3], // by call, method and answer: calls, readings and comparisons
     ways: Counts, moves: Counts, stays: Counts, readings: Counts, marks: Counts,
+    turns: Counts, // of groom alone, by parities of turn and place
     tens: [u64; 3], // by call: readings for digits that are a power of ten
     pub machine: u64, pub moved: u64, pub decades: u64,
 }
@@ -49,20 +52,20 @@ impl Met {
     pub fn new() -> Met {
         let none = [[[0; 8]; 8]; 3];
         let (calls, tens) = ([[[[0; 3]; 3]; 8]; 3], [0; 3]);
-        Met { calls, ways: none, moves: none, stays: none, readings: none, marks: none, tens, machine: 0, moved: 0, decades: 0 }
+        Met { calls, ways: none, moves: none, stays: none, readings: none, marks: none, turns: none, tens, machine: 0, moved: 0, decades: 0 }
     }
     pub fn call(&mut self, call: usize, form: &Form, job: Job, answer: u32, counts: [u64; 3]) {
         (0..3).for_each(|i| self.calls[call][row(job.method)][answer as usize][i] += counts[i]);
         if answer == 0 { self.marks[call][0][kind(form, job.mark)] += counts[0]; }
     }
-    /// A reading of an accepted call, by the method's own result and the kinds that it counts as.
-    pub fn reading(&mut self, call: usize, form: &Form, job: Job, old: u64, own: Own, kinds: Kinds, times: u64) {
+    /// A reading of an accepted call, by the method's own result, the kinds that it counts as, and its place and turn.
+    pub fn reading(&mut self, call: usize, form: &Form, job: Job, old: u64, own: Own, kinds: Kinds, [place, turn]: [u64; 2]) {
         let counts = &mut self.ways[call][row(job.method)];
         let [_, spared, clipped, missing, risen, fallen] = kinds;
-        (0..4).for_each(|k| counts[k] += times * kinds[k] as u64);
+        (0..4).for_each(|k| counts[k] += kinds[k] as u64);
         let (m, new, like) = (old % form.sign, own.0 % form.sign, kind(form, old));
-        if !missing && tie(form, job, m) { counts[if own.1 { 6 } else { 4 + (new > m) as usize }] += times; }
-        counts[7] += times * (spared && own.1) as u64;
+        if !missing && tie(form, job, m) { counts[if own.1 { 6 } else { 4 + (new > m) as usize }] += 1; }
+        counts[7] += (spared && own.1) as u64;
         let (minus, zero, finite, [up, down]) = (old >= form.sign, new == 0, m < form.infinity, ways(own.2));
         let stayed = !spared && !missing && !risen && !fallen;
         let moves = [risen && !minus, risen && minus, fallen && !minus, fallen && minus, risen && minus && zero, fallen && !minus && zero,
@@ -70,15 +73,16 @@ impl Met {
         let stays = [spared && up, spared && down, missing && up, missing && down, stayed && finite && !minus, stayed && finite && minus,
             stayed && m == form.infinity, stayed && m > form.infinity];
         for (counts, is) in [(&mut self.moves, moves), (&mut self.stays, stays)] {
-            (0..8).for_each(|k| counts[call][row(job.method)][k] += times * is[k] as u64);
+            (0..8).for_each(|k| counts[call][row(job.method)][k] += is[k] as u64);
         }
-        self.tens[call] += times * (job.method == 6 && !missing && ten(form, m)) as u64;
-        if !missing { self.readings[call][row(job.method)][like] += times; }
+        self.tens[call] += (job.method == 6 && !missing && ten(form, m)) as u64;
+        if !missing { self.readings[call][row(job.method)][like] += 1; }
+        if job.method == 2 { self.turns[call][missing as usize * 4 + (turn % 2 * 2 + place % 2) as usize][like] += 1; }
         let of = kind(form, job.mark);
         let pair = |x| x < 2 || x > 5; // kinds that could be taken for each other
         let likes = !missing && pair(like) && pair(of) && (like < 2) == (of < 2);
         let marks = &mut self.marks[call];
-        [missing, spared, likes].iter().enumerate().for_each(|(i, &is)| marks[i + 1][of] += times * is as u64);
+        [missing, spared, likes].iter().enumerate().for_each(|(i, &is)| marks[i + 1][of] += is as u64);
     }
 
     /// Prints everything. Answers whether a class that can be met is empty, or a number too small.
@@ -98,6 +102,8 @@ impl Met {
         few |= table(&self.stays, &STAYS, &METHODS, |_, _| true);
         println!("\nReadings of accepted calls that aren't missing, by kind. Each can be met.");
         few |= table(&self.readings, &KINDS, &METHODS, |_, _| true);
+        println!("\nReadings that groom meets, by whether their turn and their place are even or odd, and missing ones likewise. Each can be met.");
+        few |= table(&self.turns, &KINDS, &TURNS, |_, _| true);
         println!("\nAccepted calls and their readings, by the mark's kind. A reading becomes neither infinite nor a NaN, so such marks");
         println!("can't spare. A mark's like is a zero of the other sign, or another NaN; other kinds can't have one.");
         few | table(&self.marks, &KINDS, &MARKS, |what, kind| match what { 0 | 1 => true, 2 => kind < 5, _ => kind < 2 || kind > 5 })

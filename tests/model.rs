@@ -1,5 +1,5 @@
-//! Document 01's trims in exact whole numbers, with document 02's rises and falls, and readings at which they change. Each test uses its
-//! own part of them.
+//! Document 01's trims in exact whole numbers, with document 02's rises and falls and its turns of grooming, and readings at which they
+//! change. Each test uses its own part of them.
 #![allow(dead_code)]
 use crate::nat::{goes_up, Nat};
 use std::cmp::Ordering;
@@ -51,6 +51,8 @@ impl Form {
         assert!(m < self.infinity && self.size(m) == *size, "the model made a size that isn't a reading's");
         m
     }
+    /// Whether a reading takes a turn of grooming: it does where it is present and finite.
+    pub fn takes_turn(&self, reading: u64, mark: u64) -> bool { reading != mark && reading % self.sign < self.infinity }
     /// How the exact signed value of one finite pattern stands to another's: Greater where it rises from old to new, Less where it falls.
     /// What stays as it was moves nowhere, a number or not.
     pub fn moved(&self, old: u64, new: u64) -> Ordering {
@@ -65,7 +67,7 @@ impl Form {
         let (single, double) = (|x: u64| f32::from_bits(x as u32), f64::from_bits);
         if self.f == 23 { single(new).partial_cmp(&single(old)) } else { double(new).partial_cmp(&double(old)) }
     }
-    /// The method's own result at a reading that isn't the mark.
+    /// The method's own result at a reading that isn't the mark, and for groom at a turn that is odd or not.
     pub fn own(&self, method: u32, setting: i32, reading: u64, odd: bool) -> Own {
         let (new, clipped) = self.trim(method, setting, reading, odd);
         (new, clipped, self.moved(reading, new))

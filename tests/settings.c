@@ -92,8 +92,12 @@ static void trim_singles(const char *what, const uint32_t *in, int method, int s
         _mm_setcsr(k ? settings : USUAL);
         answer[k] = megharutti_trim_singles(left[k], N, method, setting, missing, counts[k]);
     }
-    for (uint64_t i = 0; i < N; i += 97)
-        is &= megharutti_trim_single(in[i], method, setting, missing, i) == (answer[0] ? (UINT64_C(1) << 32) + answer[0] : number(in[i], left[0][i]));
+    uint64_t turn = 0; /* of grooming: so many present finite readings came before */
+    for (int i = 0; i < N; i++) {
+        if (i % 97 == 0)
+            is &= megharutti_trim_single(in[i], method, setting, missing, turn) == (answer[0] ? (UINT64_C(1) << 32) + answer[0] : number(in[i], left[0][i]));
+        turn += in[i] != missing && in[i] << 1 < 0xFF000000;
+    }
     _mm_setcsr(USUAL);
     for (int i = 0; i < N; i++) {
         risen += moved(in[i], left[0][i], 23, 31) > 0;
@@ -320,6 +324,28 @@ static void cases(void) {
     check("shave 22 of 80000003, a rise", megharutti_trim_single(0x80000003, MEGHARUTTI_SHAVE, 22, mark, 0), 0x280000002);
     check("set 20 of 00000001, a rise", megharutti_trim_single(0x00000001, MEGHARUTTI_SET, 20, mark, 0), 0x200000007);
     check("shave 24 of 80000003, refused", megharutti_trim_single(0x80000003, MEGHARUTTI_SHAVE, 24, mark, 0), 0x100000002);
+
+    /* grooming's turns: subnormal numbers and zeros take one, NaNs, infinities and missing readings don't */
+    const uint32_t before[9] = {0x00000003, 0x80000002, 0x7F800001, 0x00000000, mark, 0x00000002, 0xFF800000, 0x80000000, 0x007FFFFE};
+    const uint32_t after[9] = {0x00000002, 0x80000003, 0x7F800001, 0x00000000, mark, 0x00000003, 0xFF800000, 0x80000000, 0x007FFFFF};
+    const uint64_t turns[9] = {0, 1, 2, 2, 3, 3, 4, 4, 5};
+    uint32_t groomed[9];
+    memcpy(groomed, before, sizeof groomed);
+    check("groom 22", megharutti_trim_singles(groomed, 9, MEGHARUTTI_GROOM, 22, mark, counts), 0);
+    for (int i = 0; i < 9; i++) {
+        check("groom 22 by turns", groomed[i], after[i]);
+        check("groom 22 of a single at its turn", (uint32_t)megharutti_trim_single(before[i], MEGHARUTTI_GROOM, 22, mark, turns[i]), after[i]);
+    }
+    check("groom 22 changes four", counts[0], 4);
+    check("groom 22 raises two", counts[4], 2);
+    check("groom 22 lowers two", counts[5], 2);
+    check("groom 22 finds one missing", counts[3], 1);
+    uint64_t wide[6] = {0x0000000000000003, 0xFFF0000000000000, wide_mark, 0x8000000000000004, 0x8000000000000000, 0x800FFFFFFFFFFFFC};
+    check("groom 50", megharutti_trim_doubles(wide, 6, MEGHARUTTI_GROOM, 50, wide_mark, counts), 0);
+    check("groom 50 of the first, a shave", wide[0], 0x0000000000000000);
+    check("groom 50 of the second, a set", wide[3], 0x8000000000000007);
+    check("groom 50 of a zero, a shave", wide[4], 0x8000000000000000);
+    check("groom 50 of the fourth, a set", wide[5], 0x800FFFFFFFFFFFFF);
 
     const uint32_t p12[2][2] = {{0x00000000, 0x0000FFFE}, {0x00000000, 0x0000FFFF}};
     const int32_t exponents[2] = {-149, -148};

@@ -1,4 +1,5 @@
-//! Compares what the program trimlist prints with a model of document 01, with document 02's columns, text by text and byte by byte.
+//! Compares what the program trimlist prints with a model of document 01, with document 02's columns and its turns of grooming, text by
+//! text and byte by byte.
 //!
 //!     texts PROGRAM [ARGUMENT ..]    runs the program once for each text
 //!     texts --stand-in               is such a program itself, by the model
@@ -25,6 +26,13 @@ const WORDS: [&str; 7] = ["shave", "set", "groom", "halfshave", "round", "absolu
 const LISTING: &str = "method,setting,mark\nround,7,7CF00000\nrain,ozone\n40490FDB,7CF00000\n7CF00001,3F800000\n";
 const LISTED: &str = "rain,ozone\n40490000,7CF00000\n7CF00001,3F800000\nchanged,spared,clipped,missing,risen,fallen\n\
     1,1,0,0,0,1\n0,0,0,1,0,0\n";
+/// Two stations that report every second slot, pi each time, and a third with what takes no turn, a zero and another zero: each series is
+/// shaved and set in turns of its own.
+const STATIONS: &str = "method,setting,mark\ngroom,7,7CF00000\nrain,ozone,dust\n40490FDB,7CF00000,7F800000\n7CF00000,40490FDB,80000000\n\
+    40490FDB,7CF00000,40490FDB\n7CF00000,40490FDB,7FC00001\n40490FDB,7CF00000,00000000\n7CF00000,40490FDB,C0490FDB\n";
+const STATIONED: &str = "rain,ozone,dust\n40490000,7CF00000,7F800000\n7CF00000,40490000,80000000\n4049FFFF,7CF00000,4049FFFF\n\
+    7CF00000,4049FFFF,7FC00001\n40490000,7CF00000,00000000\n7CF00000,40490000,C049FFFF\n\
+    changed,spared,clipped,missing,risen,fallen\n3,0,0,3,1,2\n3,0,0,3,1,2\n2,0,0,0,1,1\n";
 /// The longest text of the form: the head, the job's line, the names' line, 512 lines of values; each with its commas and its newline.
 const LONGEST: usize = 20 + (16 + 1 + 5 + 1 + 8 + 1) + (8 * 16 + 7 + 1) + 512 * (8 * 8 + 7 + 1);
 /// The longest answer: the names' line, 512 lines of values, the counts' names, and for each series six counts of three digits: 512 places
@@ -34,7 +42,9 @@ const LONGEST_ANSWER: usize = (8 * 16 + 7 + 1) + 512 * (8 * 8 + 7 + 1) + (COUNTS
 /// A rule of the model that can be turned.
 #[derive(Clone, Copy, PartialEq)]
 enum Rule {
-    Trim(Slip), NotSpared, SparedChanged, SparedClipped, MissingTrimmed, ZerosAlike, NansAlike, Parity, PresentPlaces,
+    Trim(Slip), NotSpared, SparedChanged, SparedClipped, MissingTrimmed, ZerosAlike, NansAlike,
+    ByPlace, MissingTurn, FiniteMarkTurn, InfinityTurn, NanTurn, ZeroWaits, PlusWaits, MinusWaits, OtherZeroWaits, SparedWaits, SameWaits,
+    SetFirst, OnFrom, AlongLines, Anew(usize),
     Order19, Order29, Order21, Unknown2, Beginning, Capitals, Numbered,
     LastNewline, SecondNewline, Returns, Spaces, Tabs, UntilNul, FirstText, Bits7, LastComma, Mark3, Head,
     LowerValue, LowerMark, Seven, Nine, Shorter, Longer, Lines513, Lines511, NoLines, Series9, Series7,
@@ -44,7 +54,7 @@ enum Rule {
     Upside, BySize, SparedMoved, MissingMoved, ClipTurned, ZeroStays(u64), MissingLast, FourColumns, FourNames, NamesTurned, Net,
 }
 use Rule::*;
-const TURNED: [(Rule, &str); 86] = [
+const TURNED: [(Rule, &str); 102] = [
     (Trim(Slip::TieUp), "a tie goes up"),
     (Trim(Slip::Overflow), "round passes the largest finite pattern"),
     (Trim(Slip::ClipToTop), "a clipped reading becomes the largest finite pattern"),
@@ -60,8 +70,24 @@ const TURNED: [(Rule, &str); 86] = [
     (MissingTrimmed, "missing readings are trimmed"),
     (ZerosAlike, "-0 is missing where the mark is +0"),
     (NansAlike, "every NaN is missing where the mark is one"),
-    (Parity, "the places of the second series are counted on from the first"),
-    (PresentPlaces, "missing readings don't count as places"),
+    (ByPlace, "groom goes by place, as in document 01"),
+    (MissingTurn, "a missing reading takes a turn"),
+    (FiniteMarkTurn, "a missing reading takes a turn where the mark is finite"),
+    (InfinityTurn, "an infinity takes a turn"),
+    (NanTurn, "a NaN takes a turn"),
+    (ZeroWaits, "a zero takes no turn"),
+    (PlusWaits, "+0 takes no turn"),
+    (MinusWaits, "-0 takes no turn"),
+    (OtherZeroWaits, "a zero takes no turn where the mark is the other zero"),
+    (SparedWaits, "a spared reading takes no turn"),
+    (SameWaits, "a reading that stays as it was takes no turn"),
+    (SetFirst, "groom sets at the first turn"),
+    (OnFrom, "the turns of the second series are counted on from the first"),
+    (AlongLines, "the turns go along the lines, from series to series"),
+    (Anew(4), "the turns begin anew after 4 lines"),
+    (Anew(16), "the turns begin anew after 16 lines"),
+    (Anew(64), "the turns begin anew after 64 lines"),
+    (Anew(256), "the turns begin anew after 256 lines"),
     (Order19, "1 is asked before 9"),
     (Order29, "2 is asked before 9"),
     (Order21, "2 is asked before 1"),
@@ -143,7 +169,8 @@ fn methods(rule: Rule) -> &'static [u32] {
         Trim(Slip::ZeroSign) => &[5],
         Trim(Slip::DecadeBelow | Slip::TwoSpacingsStay) => &[6],
         Trim(Slip::NanTail) => &[0, 1, 2, 3],
-        Parity | PresentPlaces => &[2],
+        ByPlace | MissingTurn | FiniteMarkTurn | InfinityTurn | NanTurn | ZeroWaits | PlusWaits | MinusWaits | OtherZeroWaits => &[2],
+        SparedWaits | SameWaits | SetFirst | OnFrom | AlongLines | Anew(_) => &[2],
         Trim(Slip::Flush) | NotSpared | SparedChanged | MissingTrimmed | ZerosAlike | NansAlike => &[0, 1, 2, 3, 4, 5, 6],
         Exchanged | OfAll | Untrimmed | BySeries | Lower => &[0, 1, 2, 3, 4, 5, 6],
         Upside | BySize | SparedMoved | MissingMoved | MissingLast | FourColumns | FourNames | NamesTurned | Net => &[0, 1, 2, 3, 4, 5, 6],
@@ -313,16 +340,46 @@ impl Model {
         // Beyond its range a setting means nothing; a model that accepts one takes the last that does.
         let (least, most) = self.form.range(method);
         let setting = job.setting.clamp(least, most);
-        let (mut out, mut counts, mut missing) = (vec![], [0; 6], 0);
+        let (mut out, mut counts, mut follows) = (vec![], [0; 6], 0);
         for (i, line) in job.lines.iter().enumerate() {
-            let place = i + self.one(Parity) * column * job.lines.len() - self.one(PresentPlaces) * missing;
-            let plain = self.form.own(method, setting, line[column], place % 2 == 1);
+            let turn = self.turn(job, column, i, follows);
+            let plain = self.form.own(method, setting, line[column], turn % 2 == 1);
             let (new, kinds) = self.left(line[column], plain, job.mark);
             (0..6).for_each(|k| counts[k] += kinds[k] as u64);
-            missing += kinds[3] as usize;
+            follows = turn + self.takes_turn(line[column], job.mark, new, kinds) as usize;
             out.push(if self.is(Untrimmed) { line[column] } else { new });
         }
         (out, counts)
+    }
+    /// The turn of a series at a line, by the one that follows from its lines before.
+    fn turn(&self, job: &Job, column: usize, line: usize, follows: usize) -> usize {
+        let takers = |of: &[u64]| of.iter().filter(|&&x| self.form.takes_turn(x, job.mark)).count();
+        match self.turned {
+            Some(SetFirst) if line == 0 => 1,
+            Some(OnFrom) if line == 0 => job.lines.iter().map(|x| takers(&x[..column])).sum(),
+            Some(AlongLines) => job.lines[..line].iter().map(|x| takers(x)).sum::<usize>() + takers(&job.lines[line][..column]),
+            Some(Anew(block)) if line % block == 0 => 0,
+            _ => follows,
+        }
+    }
+    /// Whether a reading takes a turn, by what is left of it and what it counts as.
+    fn takes_turn(&self, old: u64, mark: u64, new: u64, [_, spared, _, missing, ..]: Kinds) -> bool {
+        let (m, top) = (old % (1 << 31), self.form.infinity);
+        let wrongly = match self.turned {
+            Some(ByPlace) => missing || m >= top,
+            Some(MissingTurn) => missing,
+            Some(FiniteMarkTurn) => missing && m < top,
+            Some(InfinityTurn) => !missing && m == top,
+            Some(NanTurn) => !missing && m > top,
+            Some(ZeroWaits) => !missing && m == 0,
+            Some(PlusWaits) => !missing && old == 0,
+            Some(MinusWaits) => !missing && old == 1 << 31,
+            Some(OtherZeroWaits) => !missing && m == 0 && mark % (1 << 31) == 0,
+            Some(SparedWaits) => spared,
+            Some(SameWaits) => !missing && m < top && new == old,
+            _ => false,
+        };
+        self.form.takes_turn(old, mark) != wrongly
     }
     /// What an accepted text prints.
     fn print(&self, job: &Job, mut series: Vec<Series>) -> String {
@@ -552,6 +609,33 @@ impl Maker {
             let moved = format!("{n},0,0,0,0,{n}\n{n},0,0,0,{n},0\n");
             let counts = format!("{COUNTS}\n{moved}0,{n},0,0,0,0\n{n},0,{n},0,0,{n}\n{n},0,{n},0,{n},0\n0,0,0,{n},0,0\n");
             assert!(want.ends_with(&counts), "the model's counts");
+        }
+    }
+    /// Texts to groom whose series have turns of their own: each has other readings that take none, and zeros.
+    fn turns(&mut self) {
+        self.add("stations of every second slot", 0, STATIONS);
+        for (i, lines) in (0..=40).chain([63, 64, 65, 127, 128, 129, 255, 256, 257, 300, 400, 511, 512]).enumerate() {
+            let setting = self.setting(2);
+            let mut draft = self.draft(2, setting, 1 + i % 8, lines, i % MARKS.len());
+            let mark = draft.job[2].clone();
+            let idle = [&mark[..], &mark, "7F800000", "FF800000", "7FC00000", "FF800001"];
+            let zeros = ["00000000", "80000000"];
+            for line in 0..lines {
+                for (series, value) in draft.lines[line].iter_mut().enumerate() {
+                    let other = match (series + i) % 8 {
+                        0 => (line % 2 == 0).then_some(&mark[..]),
+                        1 => (line % 2 == 1).then_some(&mark[..]),
+                        2 => (self.below(20) == 0).then(|| self.pick(&idle)),
+                        3 => (self.below(2) == 0).then(|| self.pick(&idle)),
+                        4 => (self.below(4) == 0).then(|| self.pick(&zeros)),
+                        5 => (line == i % 8).then(|| self.pick(&idle)),
+                        6 => Some(self.pick(&idle)),
+                        _ => None,
+                    };
+                    if let Some(other) = other { *value = other.to_string(); }
+                }
+            }
+            self.add("series with turns of their own", 0, draft.text());
         }
     }
     /// The job's line: settings as they may be spelled, and unknown words.
@@ -845,6 +929,7 @@ fn texts() -> Vec<Text> {
     let mut maker = Maker::new();
     maker.good();
     maker.large();
+    maker.turns();
     maker.jobs();
     maker.long();
     maker.longest_answers();
@@ -979,6 +1064,9 @@ const PATTERN_KINDS: [&str; 10] = [
     "largest finite", "subnormal", "end of a binade", "other",
 ];
 
+/// Groomed readings whose turn and place have another parity.
+const UNLIKE: [&str; 2] = ["readings groomed at an even turn and an odd place", "readings groomed at an odd turn and an even place"];
+
 /// How a reading moves or would have moved, by its sign, and the methods by which it can: shave goes towards zero, set away from it; what
 /// clips goes towards zero.
 const MOVES: [(&str, &[usize]); 10] = [
@@ -1012,21 +1100,33 @@ impl Met {
         self.meet("repeated names", (1..job.names.len()).any(|i| job.names[..i].contains(&job.names[i])) as u64);
         self.meet("a name of 1 letter", job.names.iter().any(|x| x.len() == 1) as u64);
         self.meet("a name of 16 letters", job.names.iter().any(|x| x.len() == 16) as u64);
-        let uneven = job.names.len() > 1 && job.lines.len() % 2 == 1;
-        self.meet("groom of two or more series with an odd number of lines", (method == 2 && uneven) as u64);
+        let takers = |column: usize| job.lines.iter().filter(|line| model.form.takes_turn(line[column], job.mark)).count();
+        let uneven = job.names.len() > 1 && (0..job.names.len() - 1).any(|column| takers(column) % 2 == 1);
+        self.meet("groom of a series behind one with an odd number of turns", (method == 2 && uneven) as u64);
+        let slots = |from: usize, column: usize| job.lines.iter().skip(from).step_by(2).all(|line| line[column] == job.mark);
+        let half = |from: usize, column: usize| slots(from, column) && !slots(1 - from, column);
+        let station = |from: usize| job.lines.len() > 4 && (0..job.names.len()).any(|column| half(from, column));
+        self.meet("groom of a series with its even places missing", (method == 2 && station(0)) as u64);
+        self.meet("groom of a series with its odd places missing", (method == 2 && station(1)) as u64);
         let missing: u64 = series.iter().map(|x| x.1[3]).sum();
         self.meet(format!("mark with missing readings: {}", pattern_kind(job.mark)), (missing > 0) as u64);
         let row = &mut self.methods[method as usize];
         row[0] += 1;
         row[1] += (job.lines.len() * series.len()) as u64;
         series.iter().for_each(|x| (0..6).for_each(|k| row[k + 2] += x.1[k]));
-        for (i, line) in job.lines.iter().enumerate() {
-            for &old in line.iter().filter(|&&x| x != job.mark) {
-                self.meet(format!("reading: {}", pattern_kind(old)), 1);
-                let own = model.form.own(method, job.setting, old, i % 2 == 1);
-                self.meet("readings spared after clipping", (own.1 && own.0 == job.mark) as u64);
-                self.moved(method as usize, old, own, job.mark);
-            }
+        for column in 0..job.names.len() { self.series(model, method, job, column); }
+    }
+    /// The readings of a series, at their turns.
+    fn series(&mut self, model: &Model, method: u32, job: &Job, column: usize) {
+        let mut turn = 0;
+        for (i, old) in job.lines.iter().map(|line| line[column]).enumerate().filter(|x| x.1 != job.mark) {
+            self.meet(format!("reading: {}", pattern_kind(old)), 1);
+            let own = model.form.own(method, job.setting, old, turn % 2 == 1);
+            self.meet("readings spared after clipping", (own.1 && own.0 == job.mark) as u64);
+            self.moved(method as usize, old, own, job.mark);
+            let takes = model.form.takes_turn(old, job.mark);
+            self.meet(UNLIKE[turn % 2], (method == 2 && takes && turn % 2 != i % 2) as u64);
+            turn += takes as usize;
         }
     }
     fn moved(&mut self, method: usize, old: u64, (new, clipped, moved): Own, mark: u64) {
@@ -1067,8 +1167,9 @@ impl Met {
         wanted.extend(PATTERN_KINDS.iter().map(|kind| format!("reading: {kind}")));
         wanted.extend([
             "a setting with leading zeros", "a setting of -0", "a setting of -0000", "repeated names", "a name of 1 letter",
-            "a name of 16 letters", "groom of two or more series with an odd number of lines", "readings spared after clipping",
-            "the longest answer",
+            "a name of 16 letters", "groom of a series behind one with an odd number of turns",
+            "groom of a series with its even places missing", "groom of a series with its odd places missing", UNLIKE[0], UNLIKE[1],
+            "readings spared after clipping", "the longest answer",
         ].map(String::from));
         println!("\n{:<60} {:>8}", "met in accepted texts", "times");
         for what in wanted {
@@ -1118,6 +1219,7 @@ fn main() {
     let (mut met, mut differences, mut printed, mut by) = (Met::default(), 0, vec![], vec![]);
     let mut differs = |told: String| { differences += 1; if differences <= 10 { println!("{told}"); } };
     if model.answer(LISTING.as_bytes()).0 != LISTED { differs("the model prints something else than document 01's output".to_string()); }
+    if model.answer(STATIONS.as_bytes()).0 != STATIONED { differs("the model grooms stations otherwise".to_string()); }
     thread::spawn(watch);
     let began = Instant::now();
     for (i, text) in texts.iter().enumerate() {

@@ -1,13 +1,15 @@
-//! Compares the trims of the C interface with a model of document 01 and of request (a) of document 02 in exact whole numbers, place by place and count by count.
+//! Compares the trims of the C interface with a model of document 01 and of requests (a) and (b) of document 02 in exact whole numbers,
+//! place by place and count by count.
 //!
 //! The model knows nothing of the library. Where the machine's own floats can give the same answer exactly, they are asked too,
 //! so that a slip in the model doesn't pass for a slip in the library. Every run makes the same comparisons. It first turns one rule of
 //! the model at a time: each such wrong model must differ from the library, by each call and each method that the rule concerns. With
-//! --self-test it ends there. With --all it takes every single pattern instead, by two methods.
+//! --self-test it ends there. With --all it takes every single pattern instead, by three methods, and more arrays of groom.
 mod every;
 mod met;
 mod model;
 mod nat;
+mod turns;
 mod wrong;
 use met::Met;
 use model::{ends, number, tens, ways, Form, Own};
@@ -16,20 +18,21 @@ use std::process::exit;
 use wrong::{row, Model, Rule, DOUBLES, LOADER, SINGLES};
 
 extern "C" {
-    fn megharutti_trim_single(reading: u32, method: u32, setting: i32, mark: u32, place: u64) -> u64;
+    fn megharutti_trim_single(reading: u32, method: u32, setting: i32, mark: u32, turn: u64) -> u64;
     fn megharutti_trim_singles(readings: *mut u32, n: usize, method: u32, setting: i32, mark: u32, counts: *mut u64) -> u32;
     fn megharutti_trim_doubles(readings: *mut u64, n: usize, method: u32, setting: i32, mark: u64, counts: *mut u64) -> u32;
 }
 
 struct Tally {
     compared: u64, lines: u32, seed: u64,
+    turn: u64, // the turn after the last array call, for a wrong model that goes on from it
     only: Option<(usize, usize)>, // for a wrong model, the call and the method that are to show it
     first: (u64, String), // the first difference, and after how many comparisons
     met: Met,
 }
 impl Tally {
     fn new(only: Option<(usize, usize)>) -> Tally {
-        Tally { compared: 0, lines: 0, seed: 0x9E3779B97F4A7C15, only, first: (0, String::new()), met: Met::new() }
+        Tally { compared: 0, lines: 0, seed: 0x9E3779B97F4A7C15, turn: 0, only, first: (0, String::new()), met: Met::new() }
     }
     fn same(&mut self, got: u64, want: u64, told: impl FnOnce() -> String) {
         self.compared += 1;
@@ -56,25 +59,32 @@ impl Tally {
 #[derive(Clone, Copy)]
 struct Job { method: u32, setting: i32, mark: u64 }
 impl Job {
-    fn at(&self, what: &str, place: u64, before: u64) -> String {
-        format!("{what}: method {} setting {} mark {:08X} place {place} before {before:08X}", self.method, self.setting, self.mark)
+    fn at(&self, what: &str, at: u64, before: u64) -> String {
+        format!("{what}: method {} setting {} mark {:08X} at {at} before {before:08X}", self.method, self.setting, self.mark)
     }
 }
 
-/// A method's own results: of each reading at its place, and at a place of the other parity.
-struct Plain { here: Vec<Own>, other: Vec<Own> }
+/// A method's own results of some readings: at a turn that shaves, and at one that sets. Only groom asks for the turn.
+struct Plain { shaves: Vec<Own>, sets: Vec<Own> }
 impl Plain {
     fn of(model: &Model, job: Job, readings: &[u64]) -> Plain {
         let refused = model.form.refusal(job.method, job.setting) != 0;
-        let own = |i: usize, x, flip: bool| model.own(job.method, job.setting, x, (i % 2 == 1) != flip);
-        let trim = |i, x, flip| if refused { (x, false, Ordering::Equal) } else { own(i, x, flip) };
-        let all = |flip| readings.iter().enumerate().map(|(i, &x)| trim(i, x, flip)).collect();
-        let here: Vec<Own> = all(false);
-        let other = if job.method == 2 { all(true) } else { here.clone() }; // only groom asks for the place
-        Plain { here, other }
+        let trim = |x, sets| if refused { (x, false, Ordering::Equal) } else { model.own(job.method, job.setting, x, sets) };
+        let all = |sets| readings.iter().map(|&x| trim(x, sets)).collect();
+        let shaves: Vec<Own> = all(false);
+        let sets = if job.method == 2 { all(true) } else { shaves.clone() };
+        Plain { shaves, sets }
     }
-    /// The same without the first reading, so that each stands at a place of the other parity.
-    fn rest(&self) -> Plain { Plain { here: self.other[1..].to_vec(), other: self.here[1..].to_vec() } }
+    fn at(&self, i: usize, sets: bool) -> Own { if sets { self.sets[i] } else { self.shaves[i] } }
+    /// Results of both kinds, in turns.
+    fn mixed(&self) -> Vec<Own> { (0..self.sets.len()).map(|i| self.at(i, i % 2 == 1)).collect() }
+    /// Those of the readings at some places.
+    fn some(&self, places: &[usize]) -> Plain {
+        let some = |of: &[Own]| places.iter().map(|&i| of[i]).collect();
+        Plain { shaves: some(&self.shaves), sets: some(&self.sets) }
+    }
+    /// The same without the first reading.
+    fn rest(&self) -> Plain { Plain { shaves: self.shaves[1..].to_vec(), sets: self.sets[1..].to_vec() } }
 }
 
 /// One array call, on a part of a longer array, against the model. Answers the array as the call left it.
@@ -98,15 +108,17 @@ fn array(t: &mut Tally, model: &Model, job: Job, before: &[u64], plain: &Plain) 
     let (began, refusal) = (t.compared, model.refusal(method, setting));
     t.same(answer as u64, refusal as u64, || job.at("answer", n as u64, 0));
     let mut want = [UNTOLD, 0, 0, 0, 0, 0, 0, UNTOLD, UNTOLD];
+    let mut follows = if model.is(Rule::CarriedOn) { t.turn } else { 0 }; // the turn that follows from the readings before
     for i in 0..n {
-        let old = before[i];
-        let flip = model.is(Rule::PresentPlaces) && want[4] % 2 == 1; // so many missing readings stand before it
-        let own = if flip { plain.other[i] } else { plain.here[i] };
+        let (old, turn) = (before[i], model.turn(n, i, follows));
+        let own = plain.at(i, model.sets(turn));
         let (new, kinds) = if refusal != 0 { model.refused(old) } else { model.left(old, own, mark) };
-        if refusal == 0 { t.met.reading(call, form, job, old, own, kinds, 1); }
+        if refusal == 0 { t.met.reading(call, form, job, old, own, kinds, [i as u64, turn]); }
         (0..6).for_each(|k| want[k + 1] += kinds[k] as u64);
-        t.same(lent[front + i], new, || job.at("array", i as u64, old));
+        t.same(lent[front + i], new, || format!("{} turn {turn}", job.at("array", i as u64, old)));
+        follows = turn + model.takes_turn(old, mark, new, kinds) as u64;
     }
+    t.turn = follows;
     let outside = (0..front).chain(front + n..lent.len());
     outside.for_each(|i| t.same(lent[i], guard, || job.at("outside the array", i as u64, guard)));
     let want = if refusal != 0 { model.uncounted(UNTOLD, want) } else { model.counted(want) };
@@ -117,25 +129,29 @@ fn array(t: &mut Tally, model: &Model, job: Job, before: &[u64], plain: &Plain) 
     lent[front..front + n].to_vec()
 }
 
-/// The loader's call on each reading at places of both parities, against the model and against what the array call left. How that stands to
-/// the reading is asked of the machine's floats there; what isn't finite stays.
+/// Even turns that no array reaches, on both sides of where a narrower number would end.
+const FAR: [u64; 6] = [(1 << 32) - 2, 1 << 32, 1 << 53, (1 << 63) - 2, 1 << 63, u64::MAX - 1];
+
+/// The loader's call on each reading at its turn and at the next, and at far ones of the same parities, against the model and against what
+/// the array call left. How that stands to the reading is asked of the machine's floats there; what isn't finite stays.
 fn loader(t: &mut Tally, model: &Model, job: Job, before: &[u64], after: &[u64], plain: &Plain) {
     if t.skips(LOADER, job.method) { return; }
     let (began, refusal) = (t.compared, model.refusal(job.method, job.setting));
+    let mut turn = 0; // so many present finite readings came before
     for (i, &old) in before.iter().enumerate() {
-        for (flip, own) in [(0, plain.here[i]), (1, plain.other[i])] {
+        let far = FAR[i % 6] + turn % 2;
+        let [risen, fallen] = ways(model.form.machine_moved(old, after[i]).unwrap_or(Ordering::Equal));
+        for (turn, here) in [(turn, true), (far, true), (turn + 1, false), (far ^ 1, false)] {
+            let own = plain.at(i, model.sets(turn));
             let (new, kinds) = model.left(old, own, job.mark);
-            if refusal == 0 { t.met.reading(LOADER, &model.form, job, old, own, kinds, 2); }
+            if refusal == 0 { t.met.reading(LOADER, &model.form, job, old, own, kinds, [i as u64, turn]); }
             let want = if refusal == 0 { model.accepted_alone(new, kinds) } else { model.refused_alone(refusal) };
-            let [risen, fallen] = ways(model.form.machine_moved(old, after[i]).unwrap_or(Ordering::Equal));
-            let places = [[0, 1 << 63], [1, u64::MAX]][(i + flip) % 2];
-            for place in places {
-                let got = unsafe { megharutti_trim_single(old as u32, job.method, job.setting, job.mark as u32, place) };
-                t.same(got, want, || job.at("loader", place, old));
-                let beside = refusal == 0 && flip == 0 && t.only.is_none();
-                if beside { t.same(got, number(after[i], risen, fallen), || job.at("loader beside array", place, old)); }
-            }
+            let got = unsafe { megharutti_trim_single(old as u32, job.method, job.setting, job.mark as u32, turn) };
+            t.same(got, want, || job.at("loader, by turn", turn, old));
+            let beside = refusal == 0 && here && t.only.is_none();
+            if beside { t.same(got, number(after[i], risen, fallen), || job.at("loader beside array, by turn", turn, old)); }
         }
+        turn += model.form.takes_turn(old, job.mark) as u64;
     }
     let calls = 4 * before.len() as u64;
     t.met.call(LOADER, &model.form, job, refusal, [calls, calls, t.compared - began]);
@@ -211,7 +227,7 @@ fn marked_cases(t: &mut Tally, model: &Model) {
         let own = model.form.own(method, setting, before, false);
         t.same(own.0, after, || job.at("model", 0, before));
         t.same(own.2 as u64, moved as u64, || job.at("model's move", 0, before));
-        let plain = Plain { here: printed.clone(), other: printed };
+        let plain = Plain { shaves: printed.clone(), sets: printed };
         let left = array(t, model, job, &[before], &plain);
         loader(t, model, job, &[before], &left, &plain);
     }
@@ -239,7 +255,8 @@ fn decades(t: &mut Tally, form: &Form, tens: &[u64]) {
 }
 /// The model beside the machine's floats: its results, and its moves.
 fn machine(t: &mut Tally, form: &Form, job: Job, before: &[u64], plain: &Plain) {
-    for (&old, &(new, _, moved)) in before.iter().zip(&plain.here) {
+    let set = if job.method == 2 { &plain.sets[..] } else { &[] };
+    for (&old, &(new, _, moved)) in before.iter().zip(&plain.shaves).chain(before.iter().zip(set)) {
         if let Some(x) = form.machine(job.method, job.setting, old) {
             t.same(new, x, || job.at("model, expected by the machine's floats", 0, old));
             t.met.machine += 1;
@@ -265,12 +282,12 @@ fn setting(t: &mut Tally, model: &Model, method: u32, setting: i32, tens: &[u64]
     let plain = Plain::of(model, job, &before);
     if !refused && t.only.is_none() { machine(t, form, job, &before, &plain); }
     let rest = plain.rest();
-    for mark in marks(t, form, &before, &plain.here) {
+    for mark in marks(t, form, &before, &plain.mixed()) {
         if t.over() { return; }
         let job = Job { mark, ..job };
         let after = array(t, model, job, &before, &plain);
-        array(t, model, job, &before[1..], &rest); // each reading at a place of the other parity
-        array(t, model, job, &[], &Plain { here: vec![], other: vec![] });
+        array(t, model, job, &before[1..], &rest); // each reading at a turn of the other parity, if the first takes one
+        array(t, model, job, &[], &Plain { shaves: vec![], sets: vec![] });
         if form.f == 23 { loader(t, model, job, &before, &after, &plain); }
     }
     // The same readings without the subnormal ones, and more of every exponent: long arrays of such may be trimmed in a way of their own.
@@ -280,7 +297,7 @@ fn setting(t: &mut Tally, model: &Model, method: u32, setting: i32, tens: &[u64]
     }
     let plain = Plain::of(model, job, &normal);
     if !refused && t.only.is_none() { machine(t, form, job, &normal, &plain); }
-    for mark in marks(t, form, &normal, &plain.here) { array(t, model, Job { mark, ..job }, &normal, &plain); }
+    for mark in marks(t, form, &normal, &plain.mixed()) { array(t, model, Job { mark, ..job }, &normal, &plain); }
 }
 /// Lengths around a block's, with missing readings strewn in, and with nothing else.
 fn lengths(t: &mut Tally, model: &Model, method: u32) {
@@ -294,7 +311,7 @@ fn lengths(t: &mut Tally, model: &Model, method: u32) {
         array(t, model, job, &before, &plain);
         // One reading all over, which rises or falls, so that a count is as large as it can be.
         for way in [Greater, Less] {
-            let Some(at) = plain.here.iter().position(|own| own.2 == way) else { continue };
+            let Some(at) = plain.mixed().iter().position(|own| own.2 == way) else { continue };
             let alike = vec![before[at]; n as usize];
             array(t, model, job, &alike, &Plain::of(model, job, &alike));
         }
@@ -311,6 +328,9 @@ fn list(t: &mut Tally, model: &Model) {
     let mut now: Vec<u64> = (0..1 + t.below(60)).map(|_| (near << form.f) + (t.random() >> (63 - form.f))).collect();
     now.iter_mut().for_each(|x| *x += form.sign * t.below(2));
     let mark = form.trim(4, t.below(form.f as u64) as i32, now[0], false).0;
+    // What takes no turn of grooming, and zeros.
+    let rare = [mark, mark, form.infinity, form.infinity + form.sign, form.infinity + 1, form.all, 0, form.sign];
+    for x in now.iter_mut().skip(1) { if t.below(12) == 0 { *x = t.pick(&rare); } }
     for _ in 0..t.below(6) {
         let (method, bits) = (t.below(8) as u32, t.below(form.f as u64 + 2) as i32);
         let exponent = near as i32 - (1 << (form.e - 1)) + 1;
@@ -321,6 +341,7 @@ fn list(t: &mut Tally, model: &Model) {
 fn width(t: &mut Tally, model: &Model) {
     let tens = tens(&model.form);
     if t.only.is_none() { decades(t, &model.form, &tens); }
+    if model.has_blocks() { turns::blocks(t, model); } // so that they are seen soon
     for method in (0..10).chain([u32::MAX]) {
         if t.skips_method(method) { continue; }
         for s in settings(&model.form, method) {
@@ -328,6 +349,7 @@ fn width(t: &mut Tally, model: &Model) {
             setting(t, model, method, s, &tens);
         }
     }
+    if !t.over() && !t.skips_method(2) { turns::run(t, model); }
     for method in 0..7 {
         if !t.over() && !t.skips_method(method) { lengths(t, model, method); }
     }
@@ -353,6 +375,7 @@ fn main() {
     if std::env::args().any(|x| x == "--all") {
         let mut t = Tally::new(None);
         every::run(&mut t, &Form::new(23, 8));
+        turns::all(&mut t);
         return finish(&t, None);
     }
     let unseen = wrong::self_test(|rule, call, method| run(Some(rule), Some((call, method))).first);

@@ -14,19 +14,57 @@ pub fn named(row: usize) -> String { if row == 7 { "unknown".to_string() } else 
 #[derive(Clone, Copy, PartialEq)]
 pub enum Rule {
     Trim(Slip), TenBelow, Quieted, Finite, NotSpared, SparedChanged, SparedClipped, MissingTrimmed, ByValue, ZerosAlike, NansAlike,
-    Parity, PresentPlaces, Count(usize), RefusedWrites, RefusedCounts, RefusedCount(usize), RefusalAlone, Order21, Range(i32, i32),
+    Turn(Who), SetFirst, OnlyFirst, Pairs, Anew(usize), Rest(usize), CarriedOn, Beyond(u32),
+    Count(usize), RefusedWrites, RefusedCounts, RefusedCount(usize), RefusalAlone, Order21, Range(i32, i32),
     Exchanged, GainsExchanged, RefusalGains(u32), BySize, SparedRisen, SparedFallen, MissingMoved, ClipTurned, ClipStays, ZeroStays(u64),
     TinyStays,
 }
 use Rule::*;
 
+/// Readings of which a wrong model turns whether they take a turn of grooming.
+#[derive(Clone, Copy, PartialEq)]
+pub enum Who {
+    Idle, Missing, FiniteMark, OtherMark, Infinity, MinusInfinity, Nan, Quiet, Signalling,
+    Zero, PlusZero, MinusZero, OtherZero, Tiny, Largest, Negative, Spared, Same,
+}
+impl Who {
+    /// Whether a reading is one of these, by the mark, the pattern that is left and what it counts as.
+    fn is(self, form: &Form, old: u64, mark: u64, new: u64, [_, spared, _, missing, ..]: Kinds) -> bool {
+        let (m, negative, top) = (old % form.sign, old >= form.sign, form.infinity);
+        let quiet = m >> (form.f - 1) & 1 == 1;
+        match self {
+            Who::Idle => missing || m >= top,
+            Who::Missing => missing,
+            Who::FiniteMark => missing && m < top,
+            Who::OtherMark => missing && m >= top,
+            Who::Infinity => !missing && m == top,
+            Who::MinusInfinity => !missing && m == top && negative,
+            Who::Nan => !missing && m > top,
+            Who::Quiet => !missing && m > top && quiet,
+            Who::Signalling => !missing && m > top && !quiet,
+            Who::Zero => !missing && m == 0,
+            Who::PlusZero => !missing && m == 0 && !negative,
+            Who::MinusZero => !missing && m == 0 && negative,
+            Who::OtherZero => !missing && m == 0 && mark % form.sign == 0,
+            Who::Tiny => !missing && m > 0 && m < 1 << form.f,
+            Who::Largest => !missing && m == top - 1,
+            Who::Negative => !missing && m < top && negative,
+            Who::Spared => spared,
+            Who::Same => !missing && m < top && new == old,
+        }
+    }
+}
+
 const ALL: &[usize] = &[0, 1, 2, 3, 4, 5, 6];
 const WITH_UNKNOWN: &[usize] = &[0, 1, 2, 3, 4, 5, 6, 7];
+const GROOM: &[usize] = &[2];
 const TO_ZERO: &[usize] = &[0, 2, 4, 5]; // the others make no zero of what isn't one
 /// Each rule, the methods by which an array call can show it, and those by which the loader's call can. The loader's call has no counts and
 /// no array. By it a zero or a NaN looks the same whether it is missing or stays, so a zero that passes for the mark shows only where a
 /// method makes a zero of something else, and a NaN that does so never. What a reading counts as risen or fallen shows in its number.
-const TURNED: [(Rule, &str, &[usize], &[usize]); 55] = [
+/// Grooming's turn is a number for the loader's call, so that who takes a turn shows by an array call alone; there no turn is so far on
+/// that its parity could be lost.
+const TURNED: [(Rule, &str, &[usize], &[usize]); 95] = [
     (Trim(Slip::TieUp), "a tie goes up", &[4, 5], &[4, 5]),
     (Trim(Slip::Overflow), "round passes the largest finite pattern", &[4], &[4]),
     (Trim(Slip::ClipToTop), "a clipped reading becomes the largest finite pattern", &[4, 5], &[4, 5]),
@@ -46,8 +84,48 @@ const TURNED: [(Rule, &str, &[usize], &[usize]); 55] = [
     (ByValue, "the mark is compared by value", ALL, TO_ZERO),
     (ZerosAlike, "the mark is compared by value among zeros only", ALL, TO_ZERO),
     (NansAlike, "every NaN is missing where the mark is one", ALL, &[]),
-    (Parity, "groom sets at even places", &[2], &[2]),
-    (PresentPlaces, "missing readings don't count as places", &[2], &[]),
+    (Turn(Who::Idle), "groom goes by place, as in document 01", GROOM, &[]),
+    (Turn(Who::Missing), "a missing reading takes a turn", GROOM, &[]),
+    (Turn(Who::FiniteMark), "a missing reading takes a turn where the mark is finite", GROOM, &[]),
+    (Turn(Who::OtherMark), "a missing reading takes a turn where the mark isn't finite", GROOM, &[]),
+    (Turn(Who::Infinity), "an infinity takes a turn", GROOM, &[]),
+    (Turn(Who::MinusInfinity), "-infinity takes a turn", GROOM, &[]),
+    (Turn(Who::Nan), "a NaN takes a turn", GROOM, &[]),
+    (Turn(Who::Quiet), "a quiet NaN takes a turn", GROOM, &[]),
+    (Turn(Who::Signalling), "a signalling NaN takes a turn", GROOM, &[]),
+    (Turn(Who::Zero), "a zero takes no turn", GROOM, &[]),
+    (Turn(Who::PlusZero), "+0 takes no turn", GROOM, &[]),
+    (Turn(Who::MinusZero), "-0 takes no turn", GROOM, &[]),
+    (Turn(Who::OtherZero), "a zero takes no turn where the mark is the other zero", GROOM, &[]),
+    (Turn(Who::Tiny), "a subnormal reading takes no turn", GROOM, &[]),
+    (Turn(Who::Largest), "the largest finite reading takes no turn", GROOM, &[]),
+    (Turn(Who::Negative), "a negative reading takes no turn", GROOM, &[]),
+    (Turn(Who::Spared), "a spared reading takes no turn", GROOM, &[]),
+    (Turn(Who::Same), "a reading that stays as it was takes no turn", GROOM, &[]),
+    (SetFirst, "groom sets at the first turn", GROOM, GROOM),
+    (OnlyFirst, "groom sets at every turn but the first", GROOM, GROOM),
+    (Pairs, "groom shaves at two turns and then sets at two", GROOM, GROOM),
+    (Anew(4), "the turns begin anew after 4 places", GROOM, &[]),
+    (Anew(8), "the turns begin anew after 8 places", GROOM, &[]),
+    (Anew(16), "the turns begin anew after 16 places", GROOM, &[]),
+    (Anew(32), "the turns begin anew after 32 places", GROOM, &[]),
+    (Anew(64), "the turns begin anew after 64 places", GROOM, &[]),
+    (Anew(128), "the turns begin anew after 128 places", GROOM, &[]),
+    (Anew(256), "the turns begin anew after 256 places", GROOM, &[]),
+    (Anew(512), "the turns begin anew after 512 places", GROOM, &[]),
+    (Anew(1000), "the turns begin anew after 1,000 places", GROOM, &[]),
+    (Anew(1024), "the turns begin anew after 1,024 places", GROOM, &[]),
+    (Anew(4096), "the turns begin anew after 4,096 places", GROOM, &[]),
+    (Anew(16_384), "the turns begin anew after 16,384 places", GROOM, &[]),
+    (Anew(65_536), "the turns begin anew after 65,536 places", GROOM, &[]),
+    (Rest(4), "the turns go by place after the last whole block of 4", GROOM, &[]),
+    (Rest(8), "the turns go by place after the last whole block of 8", GROOM, &[]),
+    (Rest(64), "the turns go by place after the last whole block of 64", GROOM, &[]),
+    (Rest(65_536), "the turns go by place after the last whole block of 65,536", GROOM, &[]),
+    (CarriedOn, "the turns go on from call to call", GROOM, &[]),
+    (Beyond(32), "groom shaves at each turn from 2^32 on", &[], GROOM),
+    (Beyond(53), "groom shaves at each turn from 2^53 on", &[], GROOM),
+    (Beyond(63), "groom shaves at each turn from 2^63 on", &[], GROOM),
     (Count(0), "one more is counted as changed", ALL, &[]),
     (Count(1), "one more is counted as spared", ALL, &[]),
     (Count(2), "one more is counted as clipped", ALL, &[]),
@@ -93,7 +171,7 @@ impl Model {
         self
     }
     pub fn is(&self, rule: Rule) -> bool { self.turned == Some(rule) }
-    /// The method's own result at a reading that isn't the mark.
+    /// The method's own result at a reading that isn't the mark, and for groom at a turn that is odd or not.
     pub fn own(&self, method: u32, setting: i32, reading: u64, odd: bool) -> Own {
         let (form, m) = (&self.form, reading % self.form.sign);
         let made = |new| (new, false, form.moved(reading, new));
@@ -102,8 +180,33 @@ impl Model {
             Some(TenBelow) if method == 6 && ten(form, m) => form.own(method, setting + 1, reading, odd),
             Some(Quieted) if m > form.infinity => made(reading | 1 << (form.f - 1)),
             Some(Finite) if m == form.infinity => made(reading - 1),
-            _ => form.own(method, setting, reading, odd != self.is(Parity)),
+            _ => form.own(method, setting, reading, odd),
         }
+    }
+    /// Whether the turns are wrong about blocks.
+    pub fn has_blocks(&self) -> bool { matches!(self.turned, Some(Anew(_) | Rest(_))) }
+    /// The turn at a place of an array of so many readings, by the one that follows from the readings before it.
+    pub fn turn(&self, n: usize, place: usize, follows: u64) -> u64 {
+        match self.turned {
+            Some(Anew(block)) if place % block == 0 => 0,
+            Some(Rest(block)) if place == n / block * block => place as u64,
+            _ => follows,
+        }
+    }
+    /// Whether groom sets at a turn.
+    pub fn sets(&self, turn: u64) -> bool {
+        match self.turned {
+            Some(SetFirst) => turn % 2 == 0,
+            Some(OnlyFirst) => turn > 0,
+            Some(Pairs) => turn / 2 % 2 == 1,
+            Some(Beyond(bits)) => turn % 2 == 1 && turn < 1 << bits,
+            _ => turn % 2 == 1,
+        }
+    }
+    /// Whether a reading takes a turn, by what is left of it and what it counts as.
+    pub fn takes_turn(&self, old: u64, mark: u64, new: u64, kinds: Kinds) -> bool {
+        let wrongly = if let Some(Turn(who)) = self.turned { who.is(&self.form, old, mark, new, kinds) } else { false };
+        self.form.takes_turn(old, mark) != wrongly
     }
     pub fn refusal(&self, method: u32, setting: i32) -> u32 {
         let (least, most) = self.form.range(method);

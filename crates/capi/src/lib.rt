@@ -64,19 +64,19 @@ pub extern "C" fn megharutti_trim_doubles(
     hand_over(answer, counts)
 }
 
-// Trims one single as the array call would at a place: the pattern that is left, plus 2^33 where its exact value rose and 2^34 where it fell; or 2^32 plus the
-// refusal's number.
+// Trims one single as the array call would at a turn, with so many present finite readings before it: the pattern that is left, plus 2^33 where its exact value rose and
+// 2^34 where it fell; or 2^32 plus the refusal's number.
 #[no_mangle]
 pub extern "C" fn megharutti_trim_single(
     reading: u32,
     method: u32,
     setting: i32,
     mark: u32,
-    place: u64,
+    turn: u64,
 ) -> u64
-    ensures { λ r. ⌜ r ≡ loader method setting mark place reading ⌝ }
+    ensures { λ r. ⌜ r ≡ loader method setting mark turn reading ⌝ }
 {
-    trim::trim_single(reading, method, setting, mark, place)
+    trim::trim_single(reading, method, setting, mark, turn)
 }
 
 fn packed_number(answer: packing::Packed) -> u32

@@ -22,7 +22,7 @@ fn fits_trim(row: &[u8]) -> bool {
         ),
         b'l' => fits(
             row,
-            b"loader|source:any|method:method|setting:integer|reading:single|place:hexadecimal|what must come:hexadecimal",
+            b"loader|source:any|method:method|setting:integer|reading:single|turn:hexadecimal|what must come:hexadecimal",
         ),
         b'b' => fits(
             row,

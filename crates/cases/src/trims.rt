@@ -117,7 +117,7 @@ fn columns(at: usize, x: u32, mark: u32, expected: u32, got: u32) -> usize {
     fill(single_at(at, 74, got), 84)
 }
 
-// One single: an array of one, and the loader's call at place 0, which must agree with it.
+// One single: an array of one, and the loader's call at turn 0, which must agree with it.
 pub fn one_single(row: &[u8]) -> bool {
     let by = method(row, 2);
     let setting = signed(row, 3);
@@ -170,14 +170,14 @@ pub fn paper(row: &[u8]) -> bool {
     judge_accepted(row, fill(at, 92), got == expected, is_refused(answer))
 }
 
-// The loader's call at any place; its answer is a 64-bit number.
+// The loader's call at any turn; its answer is a 64-bit number.
 pub fn loader(row: &[u8]) -> bool {
     let x = single(row, 4);
-    let place = hex(row, 5);
+    let turn = hex(row, 5);
     let expected = hex(row, 6);
-    let got = trim::trim_single(x, method(row, 2), signed(row, 3), MARK, place);
+    let got = trim::trim_single(x, method(row, 2), signed(row, 3), MARK, turn);
     let at = put_text(start_call(row), b" at ");
-    let at = single_at(put_number(at, place), 56, x);
+    let at = single_at(put_number(at, turn), 56, x);
     let at = double_at(at, 66, expected);
     let at = double_at(at, 84, got);
     judge(row, fill(at, 102), got == expected)

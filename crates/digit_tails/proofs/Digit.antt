@@ -74,14 +74,14 @@ module _ (F X : ℕ) where
 
   -- ---- the result
 
-  module _ (n place m : ℕ) (p : 0 < m) (h : m < infinity F X) where
-    pub stays : digitStep F X n m < 2 * spacing F m → newMagnitude F X (digits n) place m ≡ m
+  module _ (n turn m : ℕ) (p : 0 < m) (h : m < infinity F X) where
+    pub stays : digitStep F X n m < 2 * spacing F m → newMagnitude F X (digits n) turn m ≡ m
     unfolding newMagnitude digitSize
     stays l = rw (ne-eqb m 0 (λ z. omega arith), lt-ltb (digitStep F X n m) (2 * spacing F m) l) (magnitudeOf-size F X m h)
 
     -- The step is 2 ^ suc t spacings. With c the spacing's exponent and w whole tails in the significand, the size is (w * 2 ^ suc t + rest) * 2 ^ c and the new one
     -- (w * 2 ^ suc t + 2 ^ t) * 2 ^ c, which is that of the tail's zeros with its top bit one.
-    pub moves : (t : ℕ) → suc t ≤ F → digitStep F X n m ≡ 2 ^ suc t * spacing F m → newMagnitude F X (digits n) place m ≡ halfshaved (suc t) m
+    pub moves : (t : ℕ) → suc t ≤ F → digitStep F X n m ≡ 2 ^ suc t * spacing F m → newMagnitude F X (digits n) turn m ≡ halfshaved (suc t) m
     unfolding newMagnitude digitSize halfshaved tailChanged spacing
     moves t f q = rw (ne-eqb m 0 some, q, le-ltb step (2 * 2 ^ c) two) (ap (λ (x : ℕ). magnitudeOf F X x) (sym (new-size (grid F m (suc t) f))) ∙ magnitudeOf-size F X new finite)
       where
@@ -101,7 +101,7 @@ module _ (F X : ℕ) where
         two = mul-le-mul-right (2 ^ c) (pow-mono {i = 1} {j = suc t} (omega arith))
 
         finite : new < infinity F X
-        finite = agree-finite F X new m (suc t) f (rw (ne-eqb m 0 some) at (tail-changed-agree halfshave place (suc t) m)) h
+        finite = agree-finite F X new m (suc t) f (rw (ne-eqb m 0 some) at (tail-changed-agree halfshave turn (suc t) m)) h
 
         half : step / 2 ≡ 2 ^ t * 2 ^ c
         half = div-eq-of-eq-mul-left {n = 2} {m = step} {k = 2 ^ t * 2 ^ c} (omega arith) (rw (pow-suc 2 t) (omega arith))

@@ -7,7 +7,7 @@ ghost use lib.Dec.{eqb, ltb};
 ghost use Rattle.meaning.specs.Readings.{infinity};
 ghost use Rattle.meaning.specs.Methods.{halfshaved, round, absolute, digits};
 ghost use Rattle.powers.specs.Table.{powers};
-ghost use Rattle.reading.specs.Left.{settledFrom, settledBy, settledTail};
+ghost use Rattle.reading.specs.Left.{settledFrom, settledBy, settledTail, takes};
 ghost use Rattle.reading.specs.Tails.{constants, TailOf, tailWord, roundWord, roundOver};
 ghost use Rattle.double.specs.Left.{settledOf, constantsOf};
 
@@ -117,6 +117,15 @@ pub fn tail_double(x: u64, tail: Tail, add: u64, mark: u64) -> Double
     let y = s + unless_zero(m, add);
     let z = below_double(m, y, x);
     settle_double(x, z, 0, mark)
+}
+
+// `bit` where a double takes a turn when an array is groomed; 0 where it is missing or isn't finite.
+pub fn turn_double(x: u64, bit: u64, mark: u64) -> u64
+    ensures { λ r. ⌜ r ≡ takes 52 11 bit mark x ⌝ }
+{
+    let m = x % 0x8000_0000_0000_0000;
+    let y = choose_double(x, mark, 0, bit);
+    below_double(m, y, 0)
 }
 
 // Method 4 with a tail, not none: half a unit less one is added to the whole pattern, and one more where the bit above the tail is one; then the tail is cut off, and

@@ -1,18 +1,18 @@
-// Trimming an array of doubles in place: each method's loop. Internal: the calls open to users are those of `trim`.
+// Trimming an array of doubles in place: each method's loop but grooming's. Internal: the calls open to users are those of `trim`.
 ghost use mathlib.Core.Path.{_≡_};
 ghost use mathlib.Core.Logic.{_≢_};
 ghost use Prim.Native.Nat.{_-_, _≤_};
 ghost use lib.ListN.{length};
-ghost use Rattle.meaning.specs.Methods.{round, absolute, digits, placeAfter};
+ghost use Rattle.meaning.specs.Methods.{round, absolute, digits, turnAfter};
 ghost use Rattle.asking.specs.Asked.{methodBy};
 ghost use Rattle.reading.specs.Left.{settledBy, settledTail};
 ghost use Rattle.reading.specs.Tails.{TailOf};
 ghost use Rattle.double.specs.Left.{constantsOf};
 ghost use Rattle.loops.specs.Tallies.{totalsOf};
 ghost use Rattle.loops.specs.Walk.{stateAt, walkedBy, talliedBy, walked, tallied};
-ghost use Rattle.loops.specs.Methods.{Fitting, addBy, Suits, settledWith, nextWith};
+ghost use Rattle.loops.specs.Methods.{Fitting, addBy, Suits, Filling, settledWith, nextWith};
 
-// ---- each method over a part of an array, or all of it
+// ---- each method over an array
 
 // Methods 0, 1 and 3: every tail becomes `add`.
 fn tail_doubles(readings: &mut [u64], tail: double::Tail, add: u64, mark: u64) -> loops::Totals
@@ -29,32 +29,6 @@ fn tail_doubles(readings: &mut [u64], tail: double::Tail, add: u64, mark: u64) -
         i += 1;
     }
     sums
-}
-
-// The sums over a part of an array, and what grooming puts into the tail of the reading after it.
-pub struct Part {
-    pub sums: loops::Totals,
-    pub add: u64,
-}
-
-// Method 2, where the first tail becomes `first`, nothing or all ones, and the next the other.
-fn groom_doubles(readings: &mut [u64], tail: double::Tail, first: u64, mark: u64) -> Part
-    requires { ⌜ (TailOf 52 (constantsOf tail)) × (first ≤ tail .ones) ⌝ }
-    ensures sums { λ r. ⌜ totalsOf (r .sums) ≡ talliedBy (λ w s. tail .ones - s) (λ s w. settledTail 52 11 (tail .bits) s mark w) first (now (readings .entry)) ⌝ }
-    ensures add { λ r. ⌜ r .add ≡ stateAt (λ w s. tail .ones - s) first (now (readings .entry)) (length (now (readings .entry))) ⌝ }
-    ensures content { λ _. ⌜ now (readings .exit) ≡ walkedBy (λ w s. tail .ones - s) (λ s w. settledTail 52 11 (tail .bits) s mark w) first (now (readings .entry)) ⌝ }
-{
-    let mut sums = loops::Totals::new();
-    let mut add = first;
-    let mut i: usize = 0;
-    while i < readings.len() {
-        let one = double::tail_double(readings[i], tail, add, mark);
-        readings[i] = one.pattern;
-        sums = sums.plus(one);
-        add = tail.ones - add;
-        i += 1;
-    }
-    Part { sums, add }
 }
 
 // Method 4 with a tail, not none.
@@ -187,7 +161,7 @@ fn add_double(method: u32, tail: double::Tail) -> u64
     0
 }
 
-// A part by any method but grooming.
+// By any method but grooming.
 fn plain_doubles(readings: &mut [u64], job: Job, mark: u64) -> loops::Totals
     requires { ⌜ (Suits 52 15 (job .method) (job .n) (constantsOf (job .tail))) × (job .method ≢ 2) ⌝ }
     ensures sums { λ r. ⌜ totalsOf r ≡ tallied (settledBy 52 11 (methodBy (job .method) (job .n)) mark 0) (now (readings .entry)) ⌝ }
@@ -207,26 +181,26 @@ fn plain_doubles(readings: &mut [u64], job: Job, mark: u64) -> loops::Totals
     tail_doubles(readings, tail, add, mark)
 }
 
-// A part of an array, where grooming puts `add` into the first tail.
-fn part_doubles(readings: &mut [u64], job: Job, add: u64, mark: u64) -> Part
-    requires { ⌜ (Suits 52 15 (job .method) (job .n) (constantsOf (job .tail))) × (add ≤ job .tail .ones) ⌝ }
-    ensures sums { λ r. ⌜ totalsOf (r .sums) ≡ talliedBy (nextWith 52 (job .method) (job .n)) (settledWith 52 11 (job .method) (job .n) mark) add (now (readings .entry)) ⌝ }
-    ensures add { λ r. ⌜ r .add ≡ stateAt (nextWith 52 (job .method) (job .n)) add (now (readings .entry)) (length (now (readings .entry))) ⌝ }
-    ensures content { λ _. ⌜ now (readings .exit) ≡ walkedBy (nextWith 52 (job .method) (job .n)) (settledWith 52 11 (job .method) (job .n) mark) add (now (readings .entry)) ⌝ }
+// An array, or a part of one, where grooming's first turn puts `add` into the tail.
+fn part_doubles(readings: &mut [u64], job: Job, add: u64, mark: u64) -> groom_doubles::Part
+    requires { ⌜ (Suits 52 15 (job .method) (job .n) (constantsOf (job .tail))) × (Filling (job .tail .ones) add) ⌝ }
+    ensures sums { λ r. ⌜ totalsOf (r .sums) ≡ talliedBy (nextWith 52 11 (job .method) (job .n) mark) (settledWith 52 11 (job .method) (job .n) mark) add (now (readings .entry)) ⌝ }
+    ensures add { λ r. ⌜ r .add ≡ stateAt (nextWith 52 11 (job .method) (job .n) mark) add (now (readings .entry)) (length (now (readings .entry))) ⌝ }
+    ensures content { λ _. ⌜ now (readings .exit) ≡ walkedBy (nextWith 52 11 (job .method) (job .n) mark) (settledWith 52 11 (job .method) (job .n) mark) add (now (readings .entry)) ⌝ }
 {
     if job.method == 2 {
         let tail = job.tail;
-        return groom_doubles(readings, tail, add, mark);
+        return groom_doubles::groom(readings, tail, add, mark);
     }
     let sums = plain_doubles(readings, job, mark);
-    Part { sums, add }
+    groom_doubles::Part { sums, add }
 }
 
 // Doubles by a method's number and its natural setting.
 pub fn method_doubles(readings: &mut [u64], method: u32, n: u32, mark: u64) -> loops::Totals
     requires { ⌜ Fitting method n 52 15 ⌝ }
-    ensures sums { λ r. ⌜ totalsOf r ≡ talliedBy (placeAfter 52 11 mark) (settledBy 52 11 (methodBy method n) mark) 0 (now (readings .entry)) ⌝ }
-    ensures content { λ _. ⌜ now (readings .exit) ≡ walkedBy (placeAfter 52 11 mark) (settledBy 52 11 (methodBy method n) mark) 0 (now (readings .entry)) ⌝ }
+    ensures sums { λ r. ⌜ totalsOf r ≡ talliedBy (turnAfter 52 11 mark) (settledBy 52 11 (methodBy method n) mark) 0 (now (readings .entry)) ⌝ }
+    ensures content { λ _. ⌜ now (readings .exit) ≡ walkedBy (turnAfter 52 11 mark) (settledBy 52 11 (methodBy method n) mark) 0 (now (readings .entry)) ⌝ }
 {
     let job = job_double(method, n);
     let whole = part_doubles(readings, job, 0, mark);

@@ -10,7 +10,7 @@ use lib.IntN.{ℤ}
 use lib.Dec.{eqb}
 use borrow.Author.Tests.{eqb-true, eqb-false}
 use lib.ListN.{length, take, drop, length-append, length-take}
-use Rattle.meaning.specs.Methods.{Method, Counts, placeAfter, countFrom, counts}
+use Rattle.meaning.specs.Methods.{Method, Counts, turnAfter, countFrom, counts}
 use Rattle.meaning.specs.Questions.{Outcome, refused, accepted, trimQuestions}
 use Rattle.meaning.specs.Calls.{AfterTrim, answering, leaving, trim, trimSingles}
 use Rattle.form.specs.Output.{upTo, countsInOrder, countsLine, countsLines}
@@ -27,12 +27,12 @@ use Rattle.listing.proofs.Answers.{printedOf}
 -- ---- counts are small
 
 module _ (F X : ℕ) (test : ℕ → ℕ → Bool) (mark : ℕ) where
-  count-few : (place : ℕ) (ws : List ℕ) → countFrom F X test mark place ws ≤ length ws
+  count-few : (turn : ℕ) (ws : List ℕ) → countFrom F X test mark turn ws ≤ length ws
   unfolding countFrom
-  count-few place [] = omega arith
-  count-few place (w ∷ ws) = one (test place w) (count-few (placeAfter F X mark w place) ws)
+  count-few turn [] = omega arith
+  count-few turn (w ∷ ws) = one (test turn w) (count-few (turnAfter F X mark w turn) ws)
     where
-      one : (b : Bool) → countFrom F X test mark (placeAfter F X mark w place) ws ≤ length ws → cond b 1 0 + countFrom F X test mark (placeAfter F X mark w place) ws ≤ suc (length ws)
+      one : (b : Bool) → countFrom F X test mark (turnAfter F X mark w turn) ws ≤ length ws → cond b 1 0 + countFrom F X test mark (turnAfter F X mark w turn) ws ≤ suc (length ws)
       one true h = omega arith
       one false h = omega arith
 

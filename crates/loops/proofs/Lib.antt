@@ -1,4 +1,5 @@
 pub mod Tallies
 pub mod Walks
 pub mod Methods
+pub mod Turns
 pub mod Once

@@ -13,7 +13,7 @@ use lib.Dec.{eqb}
 use lib.ListN.{length}
 use lib.Pow.{pow-lt}
 use Rattle.meaning.specs.Readings.{magnitude, infinity}
-use Rattle.meaning.specs.Methods.{Method, tail, shave, set, groom, halfshave, round, absolute, digits, shaved, tailSet, halfshaved, rounded, tailChanged, clips, newMagnitude, placeAfter}
+use Rattle.meaning.specs.Methods.{Method, tail, shave, set, groom, halfshave, round, absolute, digits, shaved, tailSet, halfshaved, rounded, tailChanged, clips, newMagnitude, trimmable, turnAfter}
 use Rattle.meaning.proofs.Rounding.{round-within}
 use Rattle.asking.specs.Asked.{methodBy}
 use Rattle.reading.specs.Left.{Tally, Settled, wanted, wantedBy, over, tailAdded, settledBy, settledTail}
@@ -22,10 +22,9 @@ use Rattle.reading.proofs.Counted.{on-grid}
 use Rattle.reading.proofs.Words.{cond-le, wanted-sum}
 use Rattle.reading.proofs.Settled.{settled-by}
 use Rattle.reading.proofs.Tails.{made, zero-cut}
-use Rattle.loops.specs.Tallies.{plus, Few}
+use Rattle.loops.specs.Tallies.{plus}
 use Rattle.loops.specs.Walk.{stateAt, walkedBy, talliedBy, stays, walked, tallied}
-use Rattle.loops.specs.Methods.{addBy, addAt, keepOf, Suits, settledIf, settledWith, nextWith}
-use Rattle.loops.proofs.Tallies.{one-by, one-tail}
+use Rattle.loops.specs.Methods.{addBy, addAt, keepOf, Suits, settledWith, fillingAfter, nextWith}
 
 -- ---- one walk as another, whose states h turns into its own
 
@@ -77,10 +76,10 @@ add-fits {F} {c} method h =
 
 module _ (F X : ℕ) where
   module _ (n mark w : ℕ) where
-    tail-same : (x : Method) (add place : ℕ) → tailAdded (F - n) add (magnitude F X w) ≡ newMagnitude F X x place (magnitude F X w) → 0 ≡ over F X x w
-        → settledTail F X (F - n) add mark w ≡ settledBy F X x mark place w
+    tail-same : (x : Method) (add turn : ℕ) → tailAdded (F - n) add (magnitude F X w) ≡ newMagnitude F X x turn (magnitude F X w) → 0 ≡ over F X x w
+        → settledTail F X (F - n) add mark w ≡ settledBy F X x mark turn w
     unfolding settledTail settledBy wantedBy
-    tail-same x add place e o = rw (e, o) refl
+    tail-same x add turn e o = rw (e, o) refl
 
     pub tail-by : (method : ℕ) → method < 4 → method ≢ 2 → settledTail F X (F - n) (addBy method (constants F n)) mark w ≡ settledBy F X (methodBy method n) mark 0 w
     unfolding addBy constants methodBy newMagnitude tailChanged over clips
@@ -90,13 +89,13 @@ module _ (F X : ℕ) where
     tail-by (suc (suc (suc zero))) h d = tail-same (tail halfshave n) (halfUnit (F - n)) 0 (added-half (F - n) (magnitude F X w)) refl
     tail-by (suc (suc (suc (suc m)))) h d = absurd (omega arith)
 
-    groom-by : (place : ℕ) → settledTail F X (F - n) (addAt 0 (constants F n .ones) place) mark w ≡ settledBy F X (tail groom n) mark place w
+    groom-by : (turn : ℕ) → settledTail F X (F - n) (addAt 0 (constants F n .ones) turn) mark w ≡ settledBy F X (tail groom n) mark turn w
     unfolding addAt constants newMagnitude tailChanged over clips
-    groom-by place = go (ℕ-discrete (place % 2) 0)
+    groom-by turn = go (ℕ-discrete (turn % 2) 0)
       where
-        go : Dec (place % 2 ≡ 0) → settledTail F X (F - n) (addAt 0 (constants F n .ones) place) mark w ≡ settledBy F X (tail groom n) mark place w
-        go (yes z) = tail-same (tail groom n) (addAt 0 (2 ^ (F - n) - 1) place) place (rw (eq-eqb (place % 2) 0 z) (added-none (F - n) (magnitude F X w))) refl
-        go (no z) = tail-same (tail groom n) (addAt 0 (2 ^ (F - n) - 1) place) place (rw (ne-eqb (place % 2) 0 z) (added-ones (F - n) (magnitude F X w))) refl
+        go : Dec (turn % 2 ≡ 0) → settledTail F X (F - n) (addAt 0 (constants F n .ones) turn) mark w ≡ settledBy F X (tail groom n) mark turn w
+        go (yes z) = tail-same (tail groom n) (addAt 0 (2 ^ (F - n) - 1) turn) turn (rw (eq-eqb (turn % 2) 0 z) (added-none (F - n) (magnitude F X w))) refl
+        go (no z) = tail-same (tail groom n) (addAt 0 (2 ^ (F - n) - 1) turn) turn (rw (ne-eqb (turn % 2) 0 z) (added-ones (F - n) (magnitude F X w))) refl
 
   -- method 4 with no tail leaves a reading
   none-by : (mark w : ℕ) → settledTail F X 0 0 mark w ≡ settledBy F X (round F) mark 0 w
@@ -157,44 +156,38 @@ add-next ones even odd i h = go (ℕ-discrete (i % 2) 0)
     go (yes e) = rw (eq-eqb (i % 2) 0 e, ne-eqb ((i + 1) % 2) 0 (λ z. omega arith)) (omega arith)
     go (no e) = rw (ne-eqb (i % 2) 0 e, eq-eqb ((i + 1) % 2) 0 (omega arith)) (omega arith)
 
+-- what a reading leaves for the next turn is what that turn gets
+pub filling-after : (F X mark w ones even odd turn : ℕ) → odd + even ≡ ones → fillingAfter F X ones mark w (addAt even odd turn) ≡ addAt even odd (turnAfter F X mark w turn)
+unfolding fillingAfter turnAfter
+filling-after F X mark w ones even odd turn h = go (trimmable F X mark w)
+  where
+    go : (b : Bool) → cond b (ones - addAt even odd turn) (addAt even odd turn) ≡ addAt even odd (cond b (suc turn) turn)
+    go true = sym (ap (addAt even odd) (sym (add-one turn)) ∙ add-next ones even odd turn h)
+    go false = refl
+
 -- ---- any method, by its number
 
 module _ (F method n : ℕ) where
-  -- the filling at a place
+  -- the filling at a turn
   abbrev pub fillingAt : ℕ → ℕ
-  fillingAt place = cond (eqb method 2) (addAt 0 (constants F n .ones) place) 0
-
--- every filling fits the tail
-module _ {F most method n : ℕ} {c : Constants} (suits : Suits F most method n c) where
-  next-few : (w s : ℕ) → s ≤ c .ones → nextWith F method n w s ≤ c .ones
-  unfolding nextWith
-  next-few w s h = go (ℕ-discrete method 2)
-    where
-      go : Dec (method ≡ 2) → cond (eqb method 2) (constants F n .ones - s) s ≤ c .ones
-      go (yes e) = rw (eq-eqb method 2 e, ← suits-keep suits (omega arith)) (omega arith)
-      go (no d) = rw (ne-eqb method 2 d) h
-
-  pub states-few : (s : ℕ) → s ≤ c .ones → (ws : List ℕ) (k : ℕ) → stateAt (nextWith F method n) s ws k ≤ c .ones
-  states-few s h ws zero = h
-  states-few s h [] (suc k) = h
-  states-few s h (w ∷ ws) (suc k) = states-few (nextWith F method n w s) (next-few w s h) ws k
+  fillingAt turn = cond (eqb method 2) (addAt 0 (constants F n .ones) turn) 0
 
 -- a state that never moves
-stays-at : (s : ℕ) (ws : List ℕ) (k : ℕ) → s ≡ stateAt stays s ws k
+pub stays-at : (s : ℕ) (ws : List ℕ) (k : ℕ) → s ≡ stateAt stays s ws k
 stays-at s ws zero = refl
 stays-at s [] (suc k) = refl
 stays-at s (w ∷ ws) (suc k) = stays-at s ws k
 
 module _ (F X method n mark : ℕ) where
-  -- methods other than grooming don't look at the place
-  pub placeless : method ≢ 2 → (place w : ℕ) → settledBy F X (methodBy method n) mark 0 w ≡ settledBy F X (methodBy method n) mark place w
+  -- methods other than grooming don't look at the turn
+  pub turnless : method ≢ 2 → (turn w : ℕ) → settledBy F X (methodBy method n) mark 0 w ≡ settledBy F X (methodBy method n) mark turn w
   unfolding settledBy wantedBy newMagnitude tailChanged methodBy
-  placeless d place w = rw (ne-eqb method 2 d) (go (eqb method 0) (eqb method 1) (eqb method 3) (eqb method 4) (eqb method 5))
+  turnless d turn w = rw (ne-eqb method 2 d) (go (eqb method 0) (eqb method 1) (eqb method 3) (eqb method 4) (eqb method 5))
     where
       by : Bool → Bool → Bool → Bool → Bool → Method
       by a b c d e = cond a (tail shave n) (cond b (tail set n) (cond c (tail halfshave n) (cond d (round n) (cond e (absolute n) (digits n)))))
 
-      go : (a b c d e : Bool) → settledBy F X (by a b c d e) mark 0 w ≡ settledBy F X (by a b c d e) mark place w
+      go : (a b c d e : Bool) → settledBy F X (by a b c d e) mark 0 w ≡ settledBy F X (by a b c d e) mark turn w
       go true b c d e = refl
       go false true c d e = refl
       go false false true d e = refl
@@ -207,34 +200,26 @@ module _ (F X method n mark : ℕ) where
   is-groom e = rw e refl
 
   -- one reading, groomed
-  pub groom-at : method ≡ 2 → (c : Constants) → c ≡ constants F n → (place w : ℕ) {a : ℕ} → a ≡ addAt 0 (c .ones) place → settledTail F X (c .bits) a mark w ≡ settledBy F X (methodBy method n) mark place w
+  pub groom-at : method ≡ 2 → (c : Constants) → c ≡ constants F n → (turn w : ℕ) {a : ℕ} → a ≡ addAt 0 (c .ones) turn → settledTail F X (c .bits) a mark w ≡ settledBy F X (methodBy method n) mark turn w
   unfolding constants
-  groom-at e c m place w f = rw (f, m) (groom-by F X n mark w place ∙ ap (λ (x : Method). settledBy F X x mark place w) (is-groom e))
+  groom-at e c m turn w f = rw (f, m) (groom-by F X n mark w turn ∙ ap (λ (x : Method). settledBy F X x mark turn w) (is-groom e))
 
-  -- each reading counts for 0 or 1
-  pub one-with : (s w : ℕ) → Few (settledWith F X method n mark s w .tally) 1
-  unfolding settledWith
-  one-with s w = go (eqb method 2)
+  filling-next : (w turn : ℕ) → nextWith F X method n mark w (fillingAt F method n turn) ≡ fillingAt F method n (turnAfter F X mark w turn)
+  unfolding nextWith
+  filling-next w turn = go (eqb method 2)
     where
-      go : (b : Bool) → Few (settledIf b (settledTail F X (F - n) s mark w) (settledBy F X (methodBy method n) mark 0 w) .tally) 1
-      go true = one-tail F X (F - n) s mark w
-      go false = one-by F X (methodBy method n) mark 0 w
-
-  filling-next : (w place : ℕ) → nextWith F method n w (fillingAt F method n place) ≡ fillingAt F method n (placeAfter F X mark w place)
-  unfolding nextWith placeAfter
-  filling-next w place = go (eqb method 2)
-    where
-      go : (b : Bool) → cond b (constants F n .ones - cond b (addAt 0 (constants F n .ones) place) 0) (cond b (addAt 0 (constants F n .ones) place) 0) ≡ cond b (addAt 0 (constants F n .ones) (suc place)) 0
-      go true = sym (ap (addAt 0 (constants F n .ones)) (sym (add-one place)) ∙ add-next (constants F n .ones) 0 (constants F n .ones) place (omega arith))
+      go : (b : Bool) → cond b (fillingAfter F X (constants F n .ones) mark w (cond b (addAt 0 (constants F n .ones) turn) 0)) (cond b (addAt 0 (constants F n .ones) turn) 0)
+          ≡ cond b (addAt 0 (constants F n .ones) (turnAfter F X mark w turn)) 0
+      go true = filling-after F X mark w (constants F n .ones) 0 (constants F n .ones) turn (omega arith)
       go false = refl
 
-  filling-same : (place w : ℕ) → settledWith F X method n mark (fillingAt F method n place) w ≡ settledBy F X (methodBy method n) mark place w
+  filling-same : (turn w : ℕ) → settledWith F X method n mark (fillingAt F method n turn) w ≡ settledBy F X (methodBy method n) mark turn w
   unfolding settledWith
-  filling-same place w = go (ℕ-discrete method 2)
+  filling-same turn w = go (ℕ-discrete method 2)
     where
-      go : Dec (method ≡ 2) → settledWith F X method n mark (fillingAt F method n place) w ≡ settledBy F X (methodBy method n) mark place w
-      go (yes e) = rw (eq-eqb method 2 e) (groom-by F X n mark w place ∙ ap (λ (x : Method). settledBy F X x mark place w) (is-groom e))
-      go (no d) = rw (ne-eqb method 2 d) (placeless d place w)
+      go : Dec (method ≡ 2) → settledWith F X method n mark (fillingAt F method n turn) w ≡ settledBy F X (methodBy method n) mark turn w
+      go (yes e) = rw (eq-eqb method 2 e) (groom-by F X n mark w turn ∙ ap (λ (x : Method). settledBy F X x mark turn w) (is-groom e))
+      go (no d) = rw (ne-eqb method 2 d) (turnless d turn w)
 
   filling-start : 0 ≡ fillingAt F method n 0
   unfolding addAt
@@ -244,21 +229,21 @@ module _ (F X method n mark : ℕ) where
       go true = refl
       go false = refl
 
-  -- an array from its first place on is walked as the method says
-  pub whole-walked : (ws : List ℕ) → walkedBy (nextWith F method n) (settledWith F X method n mark) 0 ws ≡ walkedBy (placeAfter F X mark) (settledBy F X (methodBy method n) mark) 0 ws
+  -- an array from its first turn on is walked as the method says
+  pub whole-walked : (ws : List ℕ) → walkedBy (nextWith F X method n mark) (settledWith F X method n mark) 0 ws ≡ walkedBy (turnAfter F X mark) (settledBy F X (methodBy method n) mark) 0 ws
   whole-walked ws =
-      ap (λ (s : ℕ). walkedBy (nextWith F method n) (settledWith F X method n mark) s ws) filling-start
-      ∙ as-walked (nextWith F method n) (placeAfter F X mark) (settledWith F X method n mark) (settledBy F X (methodBy method n) mark) (fillingAt F method n) filling-next filling-same 0 ws
+      ap (λ (s : ℕ). walkedBy (nextWith F X method n mark) (settledWith F X method n mark) s ws) filling-start
+      ∙ as-walked (nextWith F X method n mark) (turnAfter F X mark) (settledWith F X method n mark) (settledBy F X (methodBy method n) mark) (fillingAt F method n) filling-next filling-same 0 ws
 
-  pub whole-tallied : (ws : List ℕ) → talliedBy (nextWith F method n) (settledWith F X method n mark) 0 ws ≡ talliedBy (placeAfter F X mark) (settledBy F X (methodBy method n) mark) 0 ws
+  pub whole-tallied : (ws : List ℕ) → talliedBy (nextWith F X method n mark) (settledWith F X method n mark) 0 ws ≡ talliedBy (turnAfter F X mark) (settledBy F X (methodBy method n) mark) 0 ws
   whole-tallied ws =
-      ap (λ (s : ℕ). talliedBy (nextWith F method n) (settledWith F X method n mark) s ws) filling-start
-      ∙ as-tallied (nextWith F method n) (placeAfter F X mark) (settledWith F X method n mark) (settledBy F X (methodBy method n) mark) (fillingAt F method n) filling-next filling-same 0 ws
+      ap (λ (s : ℕ). talliedBy (nextWith F X method n mark) (settledWith F X method n mark) s ws) filling-start
+      ∙ as-tallied (nextWith F X method n mark) (turnAfter F X mark) (settledWith F X method n mark) (settledBy F X (methodBy method n) mark) (fillingAt F method n) filling-next filling-same 0 ws
 
   -- ---- a part of it: groomed, or by a method that doesn't look at the state
 
   module _ (e : method ≡ 2) (c : Constants) (made : c ≡ constants F n) (s : ℕ) (ws : List ℕ) where
-    groom-next : (λ w s. c .ones - s) ≡ nextWith F method n
+    groom-next : fillingAfter F X (c .ones) mark ≡ nextWith F X method n mark
     unfolding nextWith
     groom-next = fun-ext (λ w. fun-ext (λ s. rw (eq-eqb method 2 e, made) refl))
 
@@ -266,17 +251,17 @@ module _ (F X method n mark : ℕ) where
     unfolding settledWith constants
     groom-settled = fun-ext (λ s. fun-ext (λ w. rw (eq-eqb method 2 e, made) refl))
 
-    pub groom-tallied : talliedBy (λ w s. c .ones - s) (λ s w. settledTail F X (c .bits) s mark w) s ws ≡ talliedBy (nextWith F method n) (settledWith F X method n mark) s ws
+    pub groom-tallied : talliedBy (fillingAfter F X (c .ones) mark) (λ s w. settledTail F X (c .bits) s mark w) s ws ≡ talliedBy (nextWith F X method n mark) (settledWith F X method n mark) s ws
     groom-tallied = ap₂ (λ (next : ℕ → ℕ → ℕ) (f : ℕ → ℕ → Settled). talliedBy next f s ws) groom-next groom-settled
 
-    pub groom-walked : walkedBy (λ w s. c .ones - s) (λ s w. settledTail F X (c .bits) s mark w) s ws ≡ walkedBy (nextWith F method n) (settledWith F X method n mark) s ws
+    pub groom-walked : walkedBy (fillingAfter F X (c .ones) mark) (λ s w. settledTail F X (c .bits) s mark w) s ws ≡ walkedBy (nextWith F X method n mark) (settledWith F X method n mark) s ws
     groom-walked = ap₂ (λ (next : ℕ → ℕ → ℕ) (f : ℕ → ℕ → Settled). walkedBy next f s ws) groom-next groom-settled
 
-    pub groom-state : stateAt (λ w s. c .ones - s) s ws (length ws) ≡ stateAt (nextWith F method n) s ws (length ws)
+    pub groom-state : stateAt (fillingAfter F X (c .ones) mark) s ws (length ws) ≡ stateAt (nextWith F X method n mark) s ws (length ws)
     groom-state = ap (λ (next : ℕ → ℕ → ℕ). stateAt next s ws (length ws)) groom-next
 
   module _ (d : method ≢ 2) (s : ℕ) (ws : List ℕ) where
-    other-next : (w s : ℕ) → nextWith F method n w s ≡ s
+    other-next : (w s : ℕ) → nextWith F X method n mark w s ≡ s
     unfolding nextWith
     other-next w s = rw (ne-eqb method 2 d) refl
 
@@ -284,14 +269,14 @@ module _ (F X method n mark : ℕ) where
     unfolding settledWith
     other-settled s w = rw (ne-eqb method 2 d) refl
 
-    pub other-tallied : tallied (settledBy F X (methodBy method n) mark 0) ws ≡ talliedBy (nextWith F method n) (settledWith F X method n mark) s ws
+    pub other-tallied : tallied (settledBy F X (methodBy method n) mark 0) ws ≡ talliedBy (nextWith F X method n mark) (settledWith F X method n mark) s ws
     other-tallied =
-        sym (as-tallied (nextWith F method n) stays (settledWith F X method n mark) (λ p w. settledBy F X (methodBy method n) mark 0 w) (λ p. s) (λ w p. other-next w s) (λ p w. other-settled s w) 0 ws)
+        sym (as-tallied (nextWith F X method n mark) stays (settledWith F X method n mark) (λ p w. settledBy F X (methodBy method n) mark 0 w) (λ p. s) (λ w p. other-next w s) (λ p w. other-settled s w) 0 ws)
 
-    pub other-walked : walked (settledBy F X (methodBy method n) mark 0) ws ≡ walkedBy (nextWith F method n) (settledWith F X method n mark) s ws
+    pub other-walked : walked (settledBy F X (methodBy method n) mark 0) ws ≡ walkedBy (nextWith F X method n mark) (settledWith F X method n mark) s ws
     other-walked =
-        sym (as-walked (nextWith F method n) stays (settledWith F X method n mark) (λ p w. settledBy F X (methodBy method n) mark 0 w) (λ p. s) (λ w p. other-next w s) (λ p w. other-settled s w) 0 ws)
+        sym (as-walked (nextWith F X method n mark) stays (settledWith F X method n mark) (λ p w. settledBy F X (methodBy method n) mark 0 w) (λ p. s) (λ w p. other-next w s) (λ p w. other-settled s w) 0 ws)
 
-    pub other-state : s ≡ stateAt (nextWith F method n) s ws (length ws)
+    pub other-state : s ≡ stateAt (nextWith F X method n mark) s ws (length ws)
     other-state =
         stays-at s ws (length ws) ∙ ap (λ (next : ℕ → ℕ → ℕ). stateAt next s ws (length ws)) (sym (fun-ext (λ w. fun-ext (λ v. other-next w v))))

@@ -12,7 +12,7 @@ use Rattle.reading.specs.Tails.{constants, TailOf, tailWord, roundWord, roundOv
 use Rattle.reading.proofs.Counted.{settled-is}
 use Rattle.reading.proofs.Tails.{made, alone, settled-tail, settled-round}
 use Rattle.loops.specs.Once.{addFor, Once}
-use Rattle.loops.proofs.Methods.{tail-by, by-none, groom-at, placeless}
+use Rattle.loops.proofs.Methods.{tail-by, by-none, groom-at, turnless}
 
 ready-low : (method k : ℕ) → method < 4 → Ready (methodBy method k)
 unfolding methodBy
@@ -22,40 +22,40 @@ ready-low (suc (suc zero)) k h = tt
 ready-low (suc (suc (suc zero))) k h = tt
 ready-low (suc (suc (suc (suc m)))) k h = absurd (omega arith)
 
-module _ (F X k mark place w : ℕ) where
+module _ (F X k mark turn w : ℕ) where
   tail-of : TailOf F (constants F k)
   tail-of = made F k (constants F k) refl
 
-  filled : (method : ℕ) → method < 4 → settledTail F X (F - k) (addFor method (constants F k) place) mark w ≡ settledBy F X (methodBy method k) mark place w
+  filled : (method : ℕ) → method < 4 → settledTail F X (F - k) (addFor method (constants F k) turn) mark w ≡ settledBy F X (methodBy method k) mark turn w
   unfolding addFor constants
   filled method h = go (ℕ-discrete method 2)
     where
-      go : Dec (method ≡ 2) → settledTail F X (F - k) (addFor method (constants F k) place) mark w ≡ settledBy F X (methodBy method k) mark place w
-      go (yes e) = rw (eq-eqb method 2 e) (groom-at F X method k mark e (constants F k) refl place w refl)
-      go (no d) = rw (ne-eqb method 2 d) (tail-by F X k mark w method h d ∙ placeless F X method k mark d place w)
+      go : Dec (method ≡ 2) → settledTail F X (F - k) (addFor method (constants F k) turn) mark w ≡ settledBy F X (methodBy method k) mark turn w
+      go (yes e) = rw (eq-eqb method 2 e) (groom-at F X method k mark e (constants F k) refl turn w refl)
+      go (no d) = rw (ne-eqb method 2 d) (tail-by F X k mark w method h d ∙ turnless F X method k mark d turn w)
 
-  tails-are : (method : ℕ) → method < 4 → settledFrom F X mark w (tailWord F X (constants F k) (addFor method (constants F k) place) w) 0 ≡ inForce F X (methodBy method k) mark place w
+  tails-are : (method : ℕ) → method < 4 → settledFrom F X mark w (tailWord F X (constants F k) (addFor method (constants F k) turn) w) 0 ≡ inForce F X (methodBy method k) mark turn w
   unfolding constants
   tails-are method h =
-      settled-tail F X (constants F k) tail-of mark w (addFor method (constants F k) place) ∙ filled method h ∙ settled-is F X (methodBy method k) (ready-low method k h) mark place w
+      settled-tail F X (constants F k) tail-of mark w (addFor method (constants F k) turn) ∙ filled method h ∙ settled-is F X (methodBy method k) (ready-low method k h) mark turn w
 
-  -- method 4 at the first place is method 4 at any
-  round-is : settledBy F X (round k) mark 0 w ≡ inForce F X (round k) mark place w
+  -- method 4 at the first turn is method 4 at any
+  round-is : settledBy F X (round k) mark 0 w ≡ inForce F X (round k) mark turn w
   unfolding settledBy wantedBy newMagnitude
-  round-is = settled-is F X (round k) tt mark place w
+  round-is = settled-is F X (round k) tt mark turn w
 
-  rounds-are : 1 ≤ F - k → w < 2 ^ (F + X + 1) → settledFrom F X mark w (roundWord F X (constants F k) w) (roundOver F X (constants F k) w) ≡ inForce F X (round k) mark place w
+  rounds-are : 1 ≤ F - k → w < 2 ^ (F + X + 1) → settledFrom F X mark w (roundWord F X (constants F k) w) (roundOver F X (constants F k) w) ≡ inForce F X (round k) mark turn w
   unfolding constants
   rounds-are some short =
       let keep : F - (F - k) ≡ k = omega arith in
       settled-round F X (constants F k) tail-of mark w some short ∙ ap (λ (n : ℕ). settledBy F X (round n) mark 0 w) keep ∙ round-is
 
-  untailed-is : k ≡ F → settledFrom F X mark w (tailWord F X (constants F k) 0 w) 0 ≡ inForce F X (round k) mark place w
+  untailed-is : k ≡ F → settledFrom F X mark w (tailWord F X (constants F k) 0 w) 0 ≡ inForce F X (round k) mark turn w
   unfolding constants
   untailed-is e =
       let none : F - k ≡ 0 = omega arith in
       let keep : F - (F - k) ≡ k = omega arith in
       settled-tail F X (constants F k) tail-of mark w 0 ∙ by-none F X mark none w ∙ ap (λ (n : ℕ). settledBy F X (round n) mark 0 w) keep ∙ round-is
 
-  pub once : Once F X k mark place w
+  pub once : Once F X k mark turn w
   once = record { alone = alone F k; tails = tails-are; rounds = rounds-are; untailed = untailed-is }

@@ -30,9 +30,9 @@ module _ (F X : ℕ) where
         risen-few = rose-few x (leftFrom mark x z);
       }
 
-  pub one-by : (x : Method) (mark place w : ℕ) → Few (settledBy F X x mark place w .tally) 1
+  pub one-by : (x : Method) (mark turn w : ℕ) → Few (settledBy F X x mark turn w .tally) 1
   unfolding settledBy over
-  one-by x mark place w = one-from mark w (wantedBy F X x place w) (over F X x w) (cond-le (clips F X x (magnitude F X w)) 1 0 1 (le-refl 1) zero-le)
+  one-by x mark turn w = one-from mark w (wantedBy F X x turn w) (over F X x w) (cond-le (clips F X x (magnitude F X w)) 1 0 1 (le-refl 1) zero-le)
 
   pub one-tail : (t add mark w : ℕ) → Few (settledTail F X t add mark w .tally) 1
   unfolding settledTail

@@ -31,7 +31,7 @@ module _ (next : ℕ → ℕ → ℕ) (f : ℕ → ℕ → Settled) where
       ap (plus (f s w .tally)) (tallied-append (next w s) us vs)
       ∙ sym (plus-assoc (f s w .tally) (talliedBy next f (next w s) us) (talliedBy next f (stateAt next (next w s) us (length us)) vs))
 
-  walked-length : (s : ℕ) (ws : List ℕ) → length (walkedBy next f s ws) ≡ length ws
+  pub walked-length : (s : ℕ) (ws : List ℕ) → length (walkedBy next f s ws) ≡ length ws
   walked-length s [] = refl
   walked-length s (w ∷ ws) = ap suc (walked-length (next w s) ws)
 

@@ -1,8 +1,10 @@
--- A method over an array by its number and its natural setting, reading by reading: what each puts into a tail, and what grooming gives the next one. For every width.
+-- A method over an array by its number and its natural setting, reading by reading: what each puts into a tail, and what grooming has for the next turn. For every width.
 use mathlib.Core.Path.{_≡_}
+use mathlib.Core.Logic.{_⊎_}
 use mathlib.Core.Bool.{Bool, true, false, cond}
 use Prim.Native.Nat.{ℕ, _-_, _%_, _≤_}
 use lib.Dec.{leb, eqb}
+use Rattle.meaning.specs.Methods.{trimmable}
 use Rattle.asking.specs.Asked.{methodBy}
 use Rattle.reading.specs.Left.{Settled, settledBy, settledTail}
 use Rattle.reading.specs.Tails.{Constants, constants}
@@ -18,9 +20,9 @@ pub record Fitting (method n F most : ℕ) : Type 0 where
 unfoldable pub addBy : ℕ → Constants → ℕ
 addBy method c = cond (eqb method 1) (c .ones) (cond (eqb method 3) (c .half) 0)
 
--- the one or the other, by a place's parity
+-- the one or the other, by a turn's parity
 unfoldable pub addAt : ℕ → ℕ → ℕ → ℕ
-addAt even odd place = cond (eqb (place % 2) 0) even odd
+addAt even odd turn = cond (eqb (turn % 2) 0) even odd
 
 -- the keep bits of methods 0 to 4; the others have no tail
 unfoldable pub keepOf : ℕ → ℕ → ℕ → ℕ
@@ -35,10 +37,19 @@ abbrev pub settledIf : Bool → Settled → Settled → Settled
 settledIf true a b = a
 settledIf false a b = b
 
--- grooming puts s into the tail and the other methods don't look at it; after each reading grooming has the tail's other filling, all ones or none
+-- what grooming puts into a tail: nothing or all ones
+abbrev pub Filling : ℕ → ℕ → Type 0
+Filling ones s = (s ≡ 0) ⊎ (s ≡ ones)
+
 module _ (F X : ℕ) where
+  -- one reading by a method: grooming puts s into its tail, and the other methods don't look at s
   unfoldable pub settledWith : ℕ → ℕ → ℕ → ℕ → ℕ → Settled
   settledWith method n mark s w = settledIf (eqb method 2) (settledTail F X (F - n) s mark w) (settledBy F X (methodBy method n) mark 0 w)
 
-unfoldable pub nextWith : ℕ → ℕ → ℕ → ℕ → ℕ → ℕ
-nextWith F method n w s = cond (eqb method 2) (constants F n .ones - s) s
+  -- what the turn after the reading w puts into the tail: the other filling where w takes a turn, and the same where it doesn't
+  unfoldable pub fillingAfter : ℕ → ℕ → ℕ → ℕ → ℕ
+  fillingAfter ones mark w s = cond (trimmable F X mark w) (ones - s) s
+
+  -- the state that goes on from reading to reading; the other methods leave it as it is
+  unfoldable pub nextWith : ℕ → ℕ → ℕ → ℕ → ℕ → ℕ
+  nextWith method n mark w s = cond (eqb method 2) (fillingAfter (constants F n .ones) mark w s) s

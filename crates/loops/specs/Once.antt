@@ -11,17 +11,17 @@ use Rattle.reading.specs.Left.{settledFrom, inForce}
 use Rattle.reading.specs.Tails.{Constants, constants, TailOf, tailWord, roundWord, roundOver}
 use Rattle.loops.specs.Methods.{addBy, addAt}
 
--- what methods 0 to 3 put into the tail at a place
+-- what methods 0 to 3 put into the tail at a turn
 unfoldable pub addFor : ℕ → Constants → ℕ → ℕ
-addFor method c place = cond (eqb method 2) (addAt 0 (c .ones) place) (addBy method c)
+addFor method c turn = cond (eqb method 2) (addAt 0 (c .ones) turn) (addBy method c)
 
--- for k keep bits, a mark, a place and a reading w
-pub record Once (F X k mark place w : ℕ) : Type 0 where
+-- for k keep bits, a mark, a turn and a reading w
+pub record Once (F X k mark turn w : ℕ) : Type 0 where
   -- "they follow from k alone": constants with the tail of k keep bits are those of k
   pub alone : (c : Constants) → TailOf F c → c .bits ≡ F - k → c ≡ constants F k
   -- "each reading trimmed with them gets the result in force today": methods 0 to 3
-  pub tails : (method : ℕ) → method < 4 → settledFrom F X mark w (tailWord F X (constants F k) (addFor method (constants F k) place) w) 0 ≡ inForce F X (methodBy method k) mark place w
+  pub tails : (method : ℕ) → method < 4 → settledFrom F X mark w (tailWord F X (constants F k) (addFor method (constants F k) turn) w) 0 ≡ inForce F X (methodBy method k) mark turn w
   -- method 4 with a tail
-  pub rounds : 1 ≤ F - k → w < 2 ^ (F + X + 1) → settledFrom F X mark w (roundWord F X (constants F k) w) (roundOver F X (constants F k) w) ≡ inForce F X (round k) mark place w
+  pub rounds : 1 ≤ F - k → w < 2 ^ (F + X + 1) → settledFrom F X mark w (roundWord F X (constants F k) w) (roundOver F X (constants F k) w) ≡ inForce F X (round k) mark turn w
   -- and with none, which goes by the words of methods 0 to 3 and adds nothing
-  pub untailed : k ≡ F → settledFrom F X mark w (tailWord F X (constants F k) 0 w) 0 ≡ inForce F X (round k) mark place w
+  pub untailed : k ≡ F → settledFrom F X mark w (tailWord F X (constants F k) 0 w) 0 ≡ inForce F X (round k) mark turn w

@@ -1,5 +1,6 @@
-// The sums that the loops over singles and those over doubles gather, and a wider number. Internal: the calls open to users are those of `trim`.
+// The sums that the loops over singles and those over doubles gather, a wider number, and the length of a part. Internal: the calls open to users are those of `trim`.
 ghost use mathlib.Core.Path.{_≡_};
+ghost use Prim.Native.Nat.{min};
 ghost use Rattle.single.specs.Left as S;
 ghost use Rattle.double.specs.Left as D;
 ghost use Rattle.loops.specs.Tallies.{none, plus, Few, sumsOf, totalsOf};
@@ -93,10 +94,31 @@ impl Totals {
             risen: self.risen + wide(part.risen),
         }
     }
+
+    // With those of a part of either width.
+    pub fn join_totals(self, part: Totals) -> Self
+        requires { ⌜ Few (plus (totalsOf self) (totalsOf part)) 0xffff_ffff_ffff_ffff ⌝ }
+        ensures { λ r. ⌜ totalsOf r ≡ plus (totalsOf self) (totalsOf part) ⌝ }
+    {
+        Self {
+            changed: self.changed + part.changed,
+            marked: self.marked + part.marked,
+            clipped: self.clipped + part.clipped,
+            missing: self.missing + part.missing,
+            risen: self.risen + part.risen,
+        }
+    }
 }
 
 pub fn wide(x: u32) -> u64
     ensures { λ r. ⌜ r ≡ x ⌝ }
 {
     x as u64
+}
+
+// The length of the next part, where n readings are left: n, or the most that a part may have.
+pub fn at_most(n: usize, most: usize) -> usize
+    ensures { λ r. ⌜ r ≡ min n most ⌝ }
+{
+    if n < most { n } else { most }
 }

@@ -87,9 +87,9 @@ module _ (F X : ℕ) where
     pub is : absoluteSize F X q m ≡ size F v
     pub room : spacingExp F v ≤ 2 ^ X
 
-  pub lands-new : (q place m v : ℕ) → Lands q m v → newMagnitude F X (absolute q) place m ≡ v
+  pub lands-new : (q turn m v : ℕ) → Lands q m v → newMagnitude F X (absolute q) turn m ≡ v
   unfolding newMagnitude magnitudeOf
-  lands-new q place m v l = rw (l .is) (encode-size F (2 ^ X) v (l .room))
+  lands-new q turn m v l = rw (l .is) (encode-size F (2 ^ X) v (l .room))
 
   within : (q m r : ℕ) → multiple F q m ≡ r → r ≤ cap F X → absoluteSize F X q m ≡ r
   within q m r e h = absolute-within F X q m (rw e h) ∙ e
@@ -211,5 +211,5 @@ module _ (F X : ℕ) where
       go (no h) (no l) = (0, vanishes q m fin (omega arith))
 
   -- the size of method 5's result is exactly that value
-  pub absolute-exact : (q place m : ℕ) → m < infinity F X → size F (newMagnitude F X (absolute q) place m) ≡ absoluteSize F X q m
-  absolute-exact q place m fin = let l = lands q m fin in rw (lands-new q place m (l .0) (l .1)) (sym (l .1 .is))
+  pub absolute-exact : (q turn m : ℕ) → m < infinity F X → size F (newMagnitude F X (absolute q) turn m) ≡ absoluteSize F X q m
+  absolute-exact q turn m fin = let l = lands q m fin in rw (lands-new q turn m (l .0) (l .1)) (sym (l .1 .is))

@@ -69,12 +69,11 @@ pub record Edges : Type 0 where
   unit-of-pi : unit 23 (Methods.round 7) 0x40490FDB ≡ 2 ^ 143
   unit-absolute : unit 23 (Methods.absolute 149) 0x40490FDB ≡ 2 ^ 149
   unit-subnormal : unit 23 (Methods.tail Methods.set 7) 0x00000001 ≡ 2 ^ 16
-  -- ---- a NaN that isn't the mark, and an infinity, are untouched and counted nowhere, and they and missing readings count as places
+  -- ---- a NaN that isn't the mark, and an infinity, are untouched and counted nowhere
   untouched : (after (shave 0 ∷ []) 0x7FC12345 ≡ 0x7FC12345) × (answer 23 8 0x7CF00000 (shave 0) (0x7FC12345 ∷ 0xFF800000 ∷ []) ≡ counting 0 0 0 0 0 0)
   -- ---- a NaN that is the mark counts as missing; one whose bits a method would turn into the mark is untouched and not spared
   nan-missing : answer 23 8 0x7FC00000 (round 7) (0x7FC00000 ∷ []) ≡ counting 0 0 0 1 0 0
   nan-unspared : answer 23 8 0x7F800000 (shave 0) (0x7FC12345 ∷ []) ≡ counting 0 0 0 0 0 0
-  places : singles 0x7CF00000 (groom 7 ∷ []) (0x7F800000 ∷ 0x40490FDB ∷ 0x40490FDB ∷ 0x7CF00000 ∷ 0x40490FDB ∷ 0x40490FDB ∷ []) ≡ 0x7F800000 ∷ 0x4049FFFF ∷ 0x40490000 ∷ 0x7CF00000 ∷ 0x40490000 ∷ 0x4049FFFF ∷ []
   -- ---- a reading with the mark's magnitude and the other sign is present: -1.5 beside the mark 1.5
   mark-sign : singles 0x3FC00000 (absolute 0 ∷ []) (0xBFC00000 ∷ 0x3FC00000 ∷ []) ≡ 0xC0000000 ∷ 0x3FC00000 ∷ []
   -- ---- zeros of both signs stay
@@ -86,7 +85,6 @@ pub record Edges : Type 0 where
   -- ---- a refused call changes nothing and answers its number alone; the loader adds 2^32
   refused-call : (singles 0x7CF00000 (call 7 (pos 0) ∷ call 4 (negℤ (pos 1)) ∷ []) (0x40490FDB ∷ []) ≡ 0x40490FDB ∷ []) × (answer 23 8 0x7CF00000 (round 24) (0x40490FDB ∷ []) ≡ refused 2)
   loader-refused : (loads (call 7 (pos 9999)) 0 0x40490FDB ≡ 2 ^ 32 + 1) × (loads (digits 0) 0 0x40490FDB ≡ 2 ^ 32 + 2)
-  loader-places : (loads (groom 7) 4 0x40490FDB ≡ 0x4_40490000) × (loads (groom 7) 0xFFFFFFFF_FFFFFFFF 0x40490FDB ≡ 0x2_4049FFFF)
   -- ---- a zero in a summary is +0
   summary-zeros : (summed (0x80000000 ∷ 0 ∷ []) ≡ Flat 0) × (summed (0x80000000 ∷ []) ≡ Flat 0)
   summary-negative : summed (0xBF800000 ∷ 0x7CF00000 ∷ 0x80000000 ∷ []) ≡ Spread 0xBF800000 0
@@ -145,7 +143,6 @@ edges =
       untouched = (refl, refl);
       nan-missing = refl;
       nan-unspared = refl;
-      places = refl;
       mark-sign = refl;
       zeros-set = refl;
       zeros-halfshave = refl;
@@ -153,7 +150,6 @@ edges =
       cycle = (refl, refl);
       refused-call = (refl, refl);
       loader-refused = (refl, refl);
-      loader-places = (refl, refl);
       summary-zeros = (refl, refl);
       summary-negative = refl;
       summary-nothing = refl;

@@ -39,7 +39,7 @@ digits s = call 6 (pos s)
 
 -- what a list of calls leaves of an array
 unfoldable pub afterAll : ℕ → ℕ → ℕ → List Call → List ℕ → List ℕ
-unfolding Readings.exponentField Readings.fraction Readings.size Readings.spacingExp Readings.spacing Readings.encode Readings.sign Readings.magnitude Readings.pattern Readings.infinity Readings.finite Readings.magnitudeOf Readings.leastExp Readings.origin Readings.position Readings.distance Readings.missing Readings.present Methods.nearest Methods.shaved Methods.tailSet Methods.halfshaved Methods.tailChanged Methods.rounded Methods.digitsFrom Methods.digitCount Methods.multiple Methods.decade Methods.digitStep Methods.digitSize Methods.clips Methods.absoluteSize Methods.newMagnitude Methods.result Methods.trimmable Methods.spared Methods.trimmed Methods.changed Methods.clipped Methods.risen Methods.fallen Methods.unit Methods.placeAfter Methods.trimFrom Methods.countFrom Methods.counts Layers.missingCode Layers.lastCode Layers.holds Layers.leastFrom Layers.runs Layers.layers Layers.plusZero Layers.smaller Layers.larger Layers.widened Layers.summary Layers.smallest Layers.span Layers.layerOf Layers.code Layers.codeMeaning Layers.packedLayers Layers.packedCodes Layers.nearestMagnitude Layers.nearestDouble Layers.unpackedCode Layers.unpackedCodes Questions.ask Questions.above Questions.all Questions.settingInRange Questions.methodOf Questions.trimQuestions Questions.isNan Questions.layerQuestions Questions.packQuestions Questions.unpackQuestions Calls.answering Calls.leaving Calls.trim Calls.loaderNumber Calls.gain Calls.told Calls.loader Calls.storedExponent Calls.storedLayer Calls.pack Calls.unpack Calls.inTurn Calls.acceptedCalls Calls.largestUnit flatMap zipWith flatten
+unfolding Readings.exponentField Readings.fraction Readings.size Readings.spacingExp Readings.spacing Readings.encode Readings.sign Readings.magnitude Readings.pattern Readings.infinity Readings.finite Readings.magnitudeOf Readings.leastExp Readings.origin Readings.position Readings.distance Readings.missing Readings.present Methods.nearest Methods.shaved Methods.tailSet Methods.halfshaved Methods.tailChanged Methods.rounded Methods.digitsFrom Methods.digitCount Methods.multiple Methods.decade Methods.digitStep Methods.digitSize Methods.clips Methods.absoluteSize Methods.newMagnitude Methods.result Methods.trimmable Methods.spared Methods.trimmed Methods.changed Methods.clipped Methods.risen Methods.fallen Methods.unit Methods.turnAfter Methods.turnsIn Methods.trimFrom Methods.countFrom Methods.counts Layers.missingCode Layers.lastCode Layers.holds Layers.leastFrom Layers.runs Layers.layers Layers.plusZero Layers.smaller Layers.larger Layers.widened Layers.summary Layers.smallest Layers.span Layers.layerOf Layers.code Layers.codeMeaning Layers.packedLayers Layers.packedCodes Layers.nearestMagnitude Layers.nearestDouble Layers.unpackedCode Layers.unpackedCodes Questions.ask Questions.above Questions.all Questions.settingInRange Questions.methodOf Questions.trimQuestions Questions.isNan Questions.layerQuestions Questions.packQuestions Questions.unpackQuestions Calls.answering Calls.leaving Calls.trim Calls.loaderNumber Calls.gain Calls.told Calls.loader Calls.storedExponent Calls.storedLayer Calls.pack Calls.unpack Calls.inTurn Calls.acceptedCalls Calls.largestUnit flatMap zipWith flatten
 afterAll F X mark cs ws = inTurn F X cs mark ws
 
 -- and of one single, with the mark 7CF00000
@@ -55,10 +55,10 @@ unfoldable pub answer : ℕ → ℕ → ℕ → Call → List ℕ → Outcome Co
 unfolding afterAll
 answer F X mark c ws = trim F X (c .method) (c .setting) mark ws .answer
 
--- the loader's answer for a single at a place, with the mark 7CF00000
+-- the loader's answer for a single at a turn, with the mark 7CF00000
 unfoldable pub loads : Call → ℕ → ℕ → ℕ
 unfolding afterAll
-loads c place w = loader (c .method) (c .setting) 0x7CF00000 place w
+loads c turn w = loader (c .method) (c .setting) 0x7CF00000 turn w
 
 -- an outcome by its number alone: 0 where the call is accepted
 unfoldable pub number : {A : Type 0} → Outcome A → ℕ

@@ -4,13 +4,13 @@ use mathlib.Core.Path.{_≡_, refl, sym, ap, _∙_}
 use mathlib.Core.Logic.{_⊎_, inl, inr, _≢_}
 use mathlib.Core.Bool.{Bool, true, false, true≢false}
 use mathlib.Core.List.{List, [], _∷_}
-use Prim.Native.Nat.{ℕ, zero, suc, max, _+_, _-_, _*_, _^_, _≤_, _<_, zero-le, suc-le-suc}
+use Prim.Native.Nat.{ℕ, max, _+_, _-_, _*_, _^_, _≤_, _<_, zero-le, suc-le-suc}
 use native.Mathlib.Nat.{le-refl, le-of-eq, le-trans, lt-of-lt-of-le, max-eq-left, max-eq-right, max-zero, le-max-left, le-max-right, sub-le, not-suc-le-zero, le-of-mul-le-mul-right, mul-le-mul-left}
 use native.Mathlib.Decide.{decLe, decLt, ℕ-discrete}
 use native.Mathlib.Omega.{arith}
 use lib.ListN.{length, getD}
 use lib.Pow.{pow-pos, pow-add, pow-mono}
-use Rattle.meaning.specs.Readings.{spacingExp, spacing, size, sign, magnitude, infinity, finite, position, distance, missing, present}
+use Rattle.meaning.specs.Readings.{spacingExp, spacing, size, sign, magnitude, infinity, position, distance}
 use Rattle.meaning.specs.Methods.{Method, tail, round, absolute, digits, unit, newMagnitude, trimmable}
 use Rattle.meaning.specs.Questions.{all}
 use Rattle.meaning.specs.Calls.{Call, inTurn, acceptedCalls, largestUnit}
@@ -92,14 +92,14 @@ module _ (F X : ℕ) where
     bracket-keeps : (z : Method) → rounds z ≡ true → unit F z m ≤ 2 ^ Q → Keeps F X (Between (b .low) (b .high)) z
     unfolding rounds unit spacing
     bracket-keeps (tail c k) p l = absurd (true≢false (sym p))
-    bracket-keeps (round k) p l = λ place v f h.
-        round-keeps F X (b .low) (b .high) place v (h .0) (h .1) f k
+    bracket-keeps (round k) p l = λ turn v f h.
+        round-keeps F X (b .low) (b .high) turn v (h .0) (h .1) f k
         (b .low-point .tail (F - k) (sub-le F k) fits) (b .high-point .tail (F - k) (sub-le F k) fits)
       where
         fits : F - k + spacingExp F m ≤ Q
         fits = pow-le (rw (pow-add 2 (F - k) (spacingExp F m)) l)
-    bracket-keeps (absolute q) p l = λ place v f h.
-        absolute-keeps F X (b .low) (b .high) place v (h .0) (h .1) f q
+    bracket-keeps (absolute q) p l = λ turn v f h.
+        absolute-keeps F X (b .low) (b .high) turn v (h .0) (h .1) f q
         (mult-down Q q (pow-le l) (b .low-point .grid)) (mult-down Q q (pow-le l) (b .high-point .grid))
     bracket-keeps (digits n) p l = absurd (true≢false (sym p))
 
@@ -150,11 +150,11 @@ module _ (F X : ℕ) where
     bits : ℕ
     fits : bits ≤ F
     unit-is : (m : ℕ) → unit F z m ≡ 2 ^ bits * 2 ^ spacingExp F m
-    agree : (place v : ℕ) → Agree bits (newMagnitude F X z place v) v
+    agree : (turn v : ℕ) → Agree bits (newMagnitude F X z turn v) v
 
   tail-of : (z : Method) → changesTail z ≡ true → Tail z
   unfolding changesTail unit spacing newMagnitude
-  tail-of (tail c k) p = record { bits = F - k; fits = sub-le F k; unit-is = λ m. refl; agree = λ place v. tail-changed-agree c place (F - k) v }
+  tail-of (tail c k) p = record { bits = F - k; fits = sub-le F k; unit-is = λ m. refl; agree = λ turn v. tail-changed-agree c turn (F - k) v }
   tail-of (round k) p = absurd (true≢false (sym p))
   tail-of (absolute q) p = absurd (true≢false (sym p))
   tail-of (digits n) p = absurd (true≢false (sym p))
@@ -177,9 +177,9 @@ module _ (F X : ℕ) where
       u = tail-of (t .method) (t .has)
 
       keeps : (z : Method) (g : Tail z) → unit F z m ≤ unit F (t .method) m → Keeps F X (λ y. Agree (u .bits) y m) z
-      keeps z g h place v f a =
+      keeps z g h turn v f a =
           let l : g .bits ≤ u .bits = pow-le (le-of-mul-le-mul-right (rw (g .unit-is m, u .unit-is m) at h) (pow-pos (spacingExp F m))) in
-          agree-up (newMagnitude F X z place v) v (g .bits) (u .bits) l (g .agree place v) ∙ a
+          agree-up (newMagnitude F X z turn v) v (g .bits) (u .bits) l (g .agree turn v) ∙ a
 
   -- ---- one reading
 

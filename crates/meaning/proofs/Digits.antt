@@ -149,9 +149,9 @@ module _ (F X : ℕ) where
       go : size F m / 2 ^ j * 2 ^ j + 2 ^ j / 2 < size F (infinity F X)
       go = omega (arith, within, split, mul-le-mul-right (2 ^ j) quotient, pow-pos j)
 
-  pub digits-below : (n place m : ℕ) → 1 ≤ n → m < infinity F X → newMagnitude F X (digits n) place m < infinity F X
+  pub digits-below : (n turn m : ℕ) → 1 ≤ n → m < infinity F X → newMagnitude F X (digits n) turn m < infinity F X
   unfolding newMagnitude digitSize
-  digits-below n place m l h = go (ℕ-discrete m 0)
+  digits-below n turn m l h = go (ℕ-discrete m 0)
     where
       moved : (q : ℕ) → Step m q → magnitudeOf F X (size F m / q * q + q / 2) < infinity F X
       moved q none = magnitudeOf-below F X (size F m / 0 * 0 + 0 / 2) (omega (arith, size-mono F h))
@@ -161,6 +161,6 @@ module _ (F X : ℕ) where
       by-step p (yes s) = rw (lt-ltb (digitStep F X n m) (2 * spacing F m) s, magnitudeOf-size F X m h) h
       by-step p (no s) = rw (le-ltb (digitStep F X n m) (2 * spacing F m) (omega arith)) (moved (digitStep F X n m) (step n m l p))
 
-      go : Dec (m ≡ 0) → newMagnitude F X (digits n) place m < infinity F X
+      go : Dec (m ≡ 0) → newMagnitude F X (digits n) turn m < infinity F X
       go (yes z) = rw (eq-eqb m 0 z) h
       go (no z) = rw (ne-eqb m 0 z) (by-step (pos-of-ne-zero z) (decLt (digitStep F X n m) (2 * spacing F m)))

@@ -1,18 +1,18 @@
--- Laws that make the definitions believable, in document 01's words and order, for every width and for singles' layers. Most are proved in the other files; this is
+-- Laws that make the definitions believable, in the documents' words and order, for every width and for singles' layers. Most are proved in the other files; this is
 -- the page to read.
 use mathlib.Core.Path.{_≡_, refl, sym, _∙_}
 use mathlib.Core.Logic.{_≢_, _↔_, _⊎_, inl, inr}
-use mathlib.Core.Bool.{true, cond}
+use mathlib.Core.Bool.{true, false, cond}
 use mathlib.Core.List.{List}
-use Prim.Native.Nat.{ℕ, suc, _+_, _-_, _*_, _/_, _^_, _≤_, _<_}
+use Prim.Native.Nat.{ℕ, suc, _+_, _-_, _*_, _/_, _%_, _^_, _≤_, _<_}
 use native.Mathlib.Nat.{not-le-of-lt, sub-le}
 use native.Mathlib.Decide.{decLt, ℕ-discrete}
 use native.Mathlib.Omega.{arith}
 use lib.IntN.{ℤ}
-use lib.ListN.{length, getD}
+use lib.ListN.{length, take, getD}
 use lib.Pow.{pow-pos}
 use Rattle.meaning.specs.Readings.{size, spacing, sign, magnitude, infinity, finite, magnitudeOf, distance}
-use Rattle.meaning.specs.Methods.{Method, tail, shave, round, absolute, unit, nearest, shaved, rounded, tailChanged, absoluteSize, decade, newMagnitude, trimmed, changed, risen, fallen, Counts}
+use Rattle.meaning.specs.Methods.{Method, tail, shave, set, groom, round, absolute, unit, nearest, shaved, rounded, tailChanged, absoluteSize, decade, newMagnitude, trimmable, trimmed, changed, risen, fallen, turnAfter, turnsIn, trimFrom, Counts}
 use Rattle.meaning.specs.Layers.{lastCode, missingCode, holds, span, summary, layerOf, code}
 use Rattle.meaning.specs.Questions.{accepted, trimQuestions}
 use Rattle.meaning.specs.Calls.{trim}
@@ -27,6 +27,7 @@ use Rattle.meaning.proofs.Digits.{Decade, decade-rule}
 use Rattle.meaning.proofs.Accepted.{Ready, accepted-ready}
 use Rattle.meaning.proofs.OneReading.{trimmed-missing, trimmed-present, stays}
 use Rattle.meaning.proofs.Moves.{rose-or-fell, rises-plus, rises-minus, answer-sum}
+use Rattle.meaning.proofs.Turns.{idle, even-shaved, odd-set, takers, gaps, by-place}
 use Rattle.meaning.proofs.Packing.{Packable, layer-holds, layer-least, layer-codes, singles-held}
 
 pub record Laws (F X : ℕ) : Type 0 where
@@ -37,28 +38,38 @@ pub record Laws (F X : ℕ) : Type 0 where
   pub order : (m n : ℕ) → (m < n) ↔ (size F m < size F n)
   -- S and S + 2^t stand one unit apart; shave moves by less than a unit; round's result is one of the two.
   pub unit-wide : (m t : ℕ) → t ≤ F → size F (shaved t m + 2 ^ t) ≡ size F (shaved t m) + 2 ^ t * spacing F m
-  pub shave-moves : (k place m : ℕ) → distance (size F m) (size F (newMagnitude F X (tail shave k) place m)) < unit F (tail shave k) m
-  pub round-either : (k place m : ℕ) → (newMagnitude F X (round k) place m ≡ shaved (F - k) m) ⊎ (newMagnitude F X (round k) place m ≡ shaved (F - k) m + 2 ^ (F - k))
+  pub shave-moves : (k turn m : ℕ) → distance (size F m) (size F (newMagnitude F X (tail shave k) turn m)) < unit F (tail shave k) m
+  pub round-either : (k turn m : ℕ) → (newMagnitude F X (round k) turn m ≡ shaved (F - k) m) ⊎ (newMagnitude F X (round k) turn m ≡ shaved (F - k) m + 2 ^ (F - k))
   -- The result of absolute has exactly the size that document 01 names: the nearest multiple, or the largest finite one.
-  pub absolute-size : (q place m : ℕ) → m < infinity F X → size F (newMagnitude F X (absolute q) place m) ≡ absoluteSize F X q m
+  pub absolute-size : (q turn m : ℕ) → m < infinity F X → size F (newMagnitude F X (absolute q) turn m) ≡ absoluteSize F X q m
   -- The decade of digits is the one that document 01 names.
   pub digit-decade : (m : ℕ) → 0 < m → Decade F X m (decade F X m)
   -- What an accepted call leaves is a pattern of the width, is the mark exactly where the reading was, and is finite where the reading was.
   pub left-pattern : (method : ℕ) (setting : ℤ) (x : Method) → trimQuestions F X method setting ≡ accepted x
-      → (mark place w : ℕ) → w < 2 ^ suc (F + X) → trimmed F X x mark place w < 2 ^ suc (F + X)
-  pub left-mark : (x : Method) (mark place w : ℕ) → (trimmed F X x mark place w ≡ mark) ↔ (w ≡ mark)
+      → (mark turn w : ℕ) → w < 2 ^ suc (F + X) → trimmed F X x mark turn w < 2 ^ suc (F + X)
+  pub left-mark : (x : Method) (mark turn w : ℕ) → (trimmed F X x mark turn w ≡ mark) ↔ (w ≡ mark)
   pub left-finite : (method : ℕ) (setting : ℤ) (x : Method) → trimQuestions F X method setting ≡ accepted x
-      → (mark place w : ℕ) → finite F X w ≡ true → finite F X (trimmed F X x mark place w) ≡ true
+      → (mark turn w : ℕ) → finite F X w ≡ true → finite F X (trimmed F X x mark turn w) ≡ true
   -- Document 02 (a): a reading rises where its magnitude grows and its sign is 0, or shrinks and its sign is 1; a changed one rises or falls, and never both; and
   -- "Changed equals their sum".
   pub rises-above : (method : ℕ) (setting : ℤ) (x : Method) → trimQuestions F X method setting ≡ accepted x
-      → (mark place w : ℕ) → sign F X w ≡ 0 → (risen F X x mark place w ≡ true) ↔ (magnitude F X w < magnitude F X (trimmed F X x mark place w))
+      → (mark turn w : ℕ) → sign F X w ≡ 0 → (risen F X x mark turn w ≡ true) ↔ (magnitude F X w < magnitude F X (trimmed F X x mark turn w))
   pub rises-below : (method : ℕ) (setting : ℤ) (x : Method) → trimQuestions F X method setting ≡ accepted x
-      → (mark place w : ℕ) → sign F X w ≢ 0 → (risen F X x mark place w ≡ true) ↔ (magnitude F X (trimmed F X x mark place w) < magnitude F X w)
+      → (mark turn w : ℕ) → sign F X w ≢ 0 → (risen F X x mark turn w ≡ true) ↔ (magnitude F X (trimmed F X x mark turn w) < magnitude F X w)
   pub moves-once : (method : ℕ) (setting : ℤ) (x : Method) → trimQuestions F X method setting ≡ accepted x
-      → (mark place w : ℕ) → cond (changed F X x mark place w) 1 0 ≡ cond (risen F X x mark place w) 1 0 + cond (fallen F X x mark place w) 1 0
+      → (mark turn w : ℕ) → cond (changed F X x mark turn w) 1 0 ≡ cond (risen F X x mark turn w) 1 0 + cond (fallen F X x mark turn w) 1 0
   pub changed-sum : (method : ℕ) (setting : ℤ) (mark : ℕ) (ws : List ℕ) (c : Counts) → trim F X method setting mark ws .answer ≡ accepted c
       → c .changed-places ≡ c .risen-places + c .fallen-places
+  -- Document 02 (b): grooming shaves a reading that an even number of present finite readings came before, and sets the others; a reading that is missing or not finite
+  -- moves no turn; what a call leaves of the present finite readings is what it leaves of them without the others; and where there are no others, the turn of a place is the
+  -- place.
+  pub turn-shaved : (mark k : ℕ) (ws : List ℕ) (i : ℕ) → i < length ws → turnsIn F X mark (take i ws) % 2 ≡ 0
+      → getD (trimFrom F X (tail groom k) mark 0 ws) i 0 ≡ trimmed F X (tail shave k) mark 0 (getD ws i 0)
+  pub turn-set : (mark k : ℕ) (ws : List ℕ) (i : ℕ) → i < length ws → turnsIn F X mark (take i ws) % 2 ≡ 1
+      → getD (trimFrom F X (tail groom k) mark 0 ws) i 0 ≡ trimmed F X (tail set k) mark 0 (getD ws i 0)
+  pub turn-stays : (mark w turn : ℕ) → trimmable F X mark w ≡ false → turnAfter F X mark w turn ≡ turn
+  pub turn-gaps : (mark method : ℕ) (setting : ℤ) (ws : List ℕ) → takers F X mark (trim F X method setting mark ws .readings) ≡ trim F X method setting mark (takers F X mark ws) .readings
+  pub turn-place : (mark : ℕ) (ws : List ℕ) → ((k : ℕ) → k < length ws → trimmable F X mark (getD ws k 0) ≡ true) → (i : ℕ) → i ≤ length ws → turnsIn F X mark (take i ws) ≡ i
 
 module _ (F X : ℕ) where
   order-both : (m n : ℕ) → (m < n) ↔ (size F m < size F n)
@@ -68,14 +79,14 @@ module _ (F X : ℕ) where
       back h (yes l) = l
       back h (no l) = absurd (not-le-of-lt h (size-le F {m = n} {n = m} (omega arith)))
 
-  shave-close : (k place m : ℕ) → distance (size F m) (size F (newMagnitude F X (tail shave k) place m)) < unit F (tail shave k) m
+  shave-close : (k turn m : ℕ) → distance (size F m) (size F (newMagnitude F X (tail shave k) turn m)) < unit F (tail shave k) m
   unfolding newMagnitude unit
-  shave-close k place m =
-      agree-close F m (tailChanged shave place (F - k) m) (F - k) (sub-le F k) (sym (tail-changed-agree shave place (F - k) m))
+  shave-close k turn m =
+      agree-close F m (tailChanged shave turn (F - k) m) (F - k) (sub-le F k) (sym (tail-changed-agree shave turn (F - k) m))
 
-  round-sides : (k place m : ℕ) → (newMagnitude F X (round k) place m ≡ shaved (F - k) m) ⊎ (newMagnitude F X (round k) place m ≡ shaved (F - k) m + 2 ^ (F - k))
+  round-sides : (k turn m : ℕ) → (newMagnitude F X (round k) turn m ≡ shaved (F - k) m) ⊎ (newMagnitude F X (round k) turn m ≡ shaved (F - k) m + 2 ^ (F - k))
   unfolding shaved rounded
-  round-sides k place m = go (decLt (rounded (F - k) m) (infinity F X)) (ℕ-discrete (nearest m g) (m / g))
+  round-sides k turn m = go (decLt (rounded (F - k) m) (infinity F X)) (ℕ-discrete (nearest m g) (m / g))
     where
       g : ℕ
       g = 2 ^ (F - k)
@@ -84,25 +95,25 @@ module _ (F X : ℕ) where
       up h = omega (arith, nearest-floor m g (pow-pos (F - k)))
 
       go : Dec (rounded (F - k) m < infinity F X) → Dec (nearest m g ≡ m / g)
-          → (newMagnitude F X (round k) place m ≡ shaved (F - k) m) ⊎ (newMagnitude F X (round k) place m ≡ shaved (F - k) m + 2 ^ (F - k))
-      go (no f) d = inl (round-clipped F X k place m (omega arith))
-      go (yes f) (yes d) = inl (round-within F X k place m f ∙ rw d refl)
-      go (yes f) (no d) = inr (round-within F X k place m f ∙ rw (up d) (omega arith))
+          → (newMagnitude F X (round k) turn m ≡ shaved (F - k) m) ⊎ (newMagnitude F X (round k) turn m ≡ shaved (F - k) m + 2 ^ (F - k))
+      go (no f) d = inl (round-clipped F X k turn m (omega arith))
+      go (yes f) (yes d) = inl (round-within F X k turn m f ∙ rw d refl)
+      go (yes f) (no d) = inr (round-within F X k turn m f ∙ rw (up d) (omega arith))
 
-  mark-both : (x : Method) (mark place w : ℕ) → (trimmed F X x mark place w ≡ mark) ↔ (w ≡ mark)
-  mark-both x mark place w = (λ h. back h (ℕ-discrete w mark), λ e. rw e (trimmed-missing F X x mark place))
+  mark-both : (x : Method) (mark turn w : ℕ) → (trimmed F X x mark turn w ≡ mark) ↔ (w ≡ mark)
+  mark-both x mark turn w = (λ h. back h (ℕ-discrete w mark), λ e. rw e (trimmed-missing F X x mark turn))
     where
-      back : trimmed F X x mark place w ≡ mark → Dec (w ≡ mark) → w ≡ mark
+      back : trimmed F X x mark turn w ≡ mark → Dec (w ≡ mark) → w ≡ mark
       back h (yes e) = e
-      back h (no e) = absurd (trimmed-present F X x mark place w e h)
+      back h (no e) = absurd (trimmed-present F X x mark turn w e h)
 
-  left-fits : (x : Method) → Ready x → (mark place w : ℕ) → w < 2 ^ suc (F + X) → trimmed F X x mark place w < 2 ^ suc (F + X)
-  left-fits x r mark place w h =
-      stays F X (λ v. v < 2 ^ suc (F + X)) x r mark place w h (λ p f g.
-      rw (← pattern-back F X (trimmed F X x mark place w)) (pattern-fits F X (sign F X (trimmed F X x mark place w)) (magnitude F X (trimmed F X x mark place w)) (rw (g .signed) (sign-one F X w h)) (g .below)))
+  left-fits : (x : Method) → Ready x → (mark turn w : ℕ) → w < 2 ^ suc (F + X) → trimmed F X x mark turn w < 2 ^ suc (F + X)
+  left-fits x r mark turn w h =
+      stays F X (λ v. v < 2 ^ suc (F + X)) x r mark turn w h (λ p f g.
+      rw (← pattern-back F X (trimmed F X x mark turn w)) (pattern-fits F X (sign F X (trimmed F X x mark turn w)) (magnitude F X (trimmed F X x mark turn w)) (rw (g .signed) (sign-one F X w h)) (g .below)))
 
-  left-below : (x : Method) → Ready x → (mark place w : ℕ) → finite F X w ≡ true → finite F X (trimmed F X x mark place w) ≡ true
-  left-below x r mark place w h = stays F X (λ v. finite F X v ≡ true) x r mark place w h (λ p f g. below-finite F X (trimmed F X x mark place w) (g .below))
+  left-below : (x : Method) → Ready x → (mark turn w : ℕ) → finite F X w ≡ true → finite F X (trimmed F X x mark turn w) ≡ true
+  left-below x r mark turn w h = stays F X (λ v. finite F X v ≡ true) x r mark turn w h (λ p f g. below-finite F X (trimmed F X x mark turn w) (g .below))
 
   pub laws : Laws F X
   laws =
@@ -122,6 +133,11 @@ module _ (F X : ℕ) where
         rises-below = λ method setting x e. rises-minus F X x (accepted-ready F X method setting x e);
         moves-once = λ method setting x e. rose-or-fell F X x (accepted-ready F X method setting x e);
         changed-sum = answer-sum F X;
+        turn-shaved = even-shaved F X;
+        turn-set = odd-set F X;
+        turn-stays = idle F X;
+        turn-gaps = gaps F X;
+        turn-place = by-place F X;
       }
 
 -- Layers of singles whose present readings are all finite: the step exponent holds the span and is the least that does; a code is the missing

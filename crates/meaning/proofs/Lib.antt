@@ -5,6 +5,7 @@ pub mod CasesEdges
 pub mod CasesMoves
 pub mod CasesRefusals
 pub mod CasesRows
+pub mod CasesTurns
 pub mod Powers
 pub mod Sizes
 pub mod Patterns
@@ -17,6 +18,7 @@ pub mod Digits
 pub mod Accepted
 pub mod OneReading
 pub mod Moves
+pub mod Turns
 pub mod Packing
 pub mod Laws
 pub mod Bracket

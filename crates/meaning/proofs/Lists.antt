@@ -1,17 +1,17 @@
--- One reading through a list of accepted methods: what each method keeps, the list keeps. No lemma here knows the place of a step.
+-- One reading through a list of accepted methods: what each method keeps, the list keeps. No lemma here knows the turn of a step.
 use mathlib.Core.Path.{_≡_, refl, sym, ap, _∙_, subst}
 use mathlib.Core.Logic.{_≢_}
 use mathlib.Core.List.{List, [], _∷_}
-use Prim.Native.Nat.{ℕ, zero, suc, _<_}
-use native.Mathlib.Nat.{le-of-suc-le-suc, not-suc-le-zero}
+use Prim.Native.Nat.{ℕ, suc, _+_, _<_}
 use native.Mathlib.Omega.{arith}
-use lib.ListN.{length, getD}
+use lib.ListN.{length, take, getD}
 use Rattle.meaning.specs.Readings.{magnitude, infinity}
-use Rattle.meaning.specs.Methods.{Method, placeAfter, trimmed, trimFrom}
+use Rattle.meaning.specs.Methods.{Method, turnAfter, turnsIn, trimmed, trimFrom}
 use Rattle.meaning.specs.Questions.{Outcome, refused, accepted, trimQuestions}
 use Rattle.meaning.specs.Calls.{Call, leaving, trim, inTurn, acceptedCalls}
 use Rattle.meaning.proofs.Accepted.{Ready, accepted-ready}
 use Rattle.meaning.proofs.OneReading.{trimmed-missing, trimmed-present, trimmed-other, Keeps, Good, trimmed-good}
+use Rattle.meaning.proofs.Turns.{at-turn}
 
 -- R holds of every method of the list
 abbrev pub Every : (Method → Type 0) → List Method → Type 0
@@ -23,10 +23,10 @@ every-map [] f h = tt
 every-map (x ∷ xs) f h = (f x (h .0), every-map xs f (h .1))
 
 module _ (F X : ℕ) where
-  -- v comes from w by the methods of a list in turn, each at some place
+  -- v comes from w by the methods of a list one after another, each at some turn
   abbrev pub Via : List Method → ℕ → ℕ → ℕ → Type 0
   Via [] mark w v = w ≡ v
-  Via (x ∷ xs) mark w v = (place : ℕ) × Via xs mark (trimmed F X x mark place w) v
+  Via (x ∷ xs) mark w v = (turn : ℕ) × Via xs mark (trimmed F X x mark turn w) v
 
   pub via-good : (P : ℕ → Type 0) (xs : List Method) → Every Ready xs → Every (Keeps F X P) xs → (mark s w v : ℕ) → Via xs mark w v → Good F X P mark s w → Good F X P mark s v
   via-good P [] r h mark s w v e g = subst (λ (u : ℕ). Good F X P mark s u) e g
@@ -47,17 +47,14 @@ module _ (F X : ℕ) where
 
   -- ---- a list of calls, at one place of the array
 
-  length-trimFrom : (x : Method) (mark place : ℕ) (ws : List ℕ) → length (trimFrom F X x mark place ws) ≡ length ws
+  length-trimFrom : (x : Method) (mark turn : ℕ) (ws : List ℕ) → length (trimFrom F X x mark turn ws) ≡ length ws
   unfolding trimFrom
-  length-trimFrom x mark place [] = refl
-  length-trimFrom x mark place (w ∷ ws) = ap suc (length-trimFrom x mark (placeAfter F X mark w place) ws)
+  length-trimFrom x mark turn [] = refl
+  length-trimFrom x mark turn (w ∷ ws) = ap suc (length-trimFrom x mark (turnAfter F X mark w turn) ws)
 
-  at-trimFrom : (x : Method) (mark place : ℕ) (ws : List ℕ) (i : ℕ) → i < length ws
-      → (p : ℕ) × (trimmed F X x mark p (getD ws i 0) ≡ getD (trimFrom F X x mark place ws) i 0)
-  unfolding trimFrom
-  at-trimFrom x mark place [] i h = absurd (not-suc-le-zero h)
-  at-trimFrom x mark place (w ∷ ws) zero h = (place, refl)
-  at-trimFrom x mark place (w ∷ ws) (suc i) h = at-trimFrom x mark (placeAfter F X mark w place) ws i (le-of-suc-le-suc h)
+  at-trimFrom : (x : Method) (mark turn : ℕ) (ws : List ℕ) (i : ℕ) → i < length ws
+      → (p : ℕ) × (trimmed F X x mark p (getD ws i 0) ≡ getD (trimFrom F X x mark turn ws) i 0)
+  at-trimFrom x mark turn ws i h = (turn + turnsIn F X mark (take i ws), sym (at-turn F X mark x turn ws i h))
 
   module _ (c : Call) (cs : List Call) (mark : ℕ) (ws : List ℕ) where
     -- a refused call changes nothing and doesn't count; an accepted one trims

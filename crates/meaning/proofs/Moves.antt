@@ -12,7 +12,7 @@ use borrow.Author.Tests.{eq-eqb, ne-eqb, lt-ltb, le-ltb, ltb-true}
 use lib.Dec.{ltb}
 use lib.IntN.{ℤ}
 use Rattle.meaning.specs.Readings.{sign, magnitude, infinity, position}
-use Rattle.meaning.specs.Methods.{Method, trimmed, changed, risen, fallen, placeAfter, countFrom, Counts, counts}
+use Rattle.meaning.specs.Methods.{Method, trimmed, changed, risen, fallen, turnAfter, countFrom, Counts, counts}
 use Rattle.meaning.specs.Questions.{Outcome, refused, accepted, trimQuestions}
 use Rattle.meaning.specs.Calls.{answering, trim}
 use Rattle.meaning.proofs.Sizes.{size-mono, size-le}
@@ -59,20 +59,20 @@ module _ (F X : ℕ) where
 
   -- ---- one reading
 
-  module _ (x : Method) (r : Ready x) (mark place w : ℕ) where
+  module _ (x : Method) (r : Ready x) (mark turn w : ℕ) where
     abbrev v : ℕ
-    v = trimmed F X x mark place w
+    v = trimmed F X x mark turn w
 
     moved : v ≢ w → position F X v ≢ position F X w
     moved =
-        stays F X (λ u. u ≢ w → position F X u ≢ position F X w) x r mark place w (λ n. absurd (n refl)) (λ p f g. apart v w (g .signed) (g .below) f)
+        stays F X (λ u. u ≢ w → position F X u ≢ position F X w) x r mark turn w (λ n. absurd (n refl)) (λ p f g. apart v w (g .signed) (g .below) f)
 
     -- changed, it rose or fell
-    pub rose-or-fell : cond (changed F X x mark place w) 1 0 ≡ cond (risen F X x mark place w) 1 0 + cond (fallen F X x mark place w) 1 0
+    pub rose-or-fell : cond (changed F X x mark turn w) 1 0 ≡ cond (risen F X x mark turn w) 1 0 + cond (fallen F X x mark turn w) 1 0
     unfolding changed risen fallen
     rose-or-fell = go (ℕ-discrete v w) (decLt (position F X w) (position F X v))
       where
-        go : Dec (v ≡ w) → Dec (position F X w < position F X v) → cond (changed F X x mark place w) 1 0 ≡ cond (risen F X x mark place w) 1 0 + cond (fallen F X x mark place w) 1 0
+        go : Dec (v ≡ w) → Dec (position F X w < position F X v) → cond (changed F X x mark turn w) 1 0 ≡ cond (risen F X x mark turn w) 1 0 + cond (fallen F X x mark turn w) 1 0
         go (yes e) d = rw (e, eq-eqb w w refl, le-ltb (position F X w) (position F X w) (le-refl (position F X w))) refl
         go (no e) (yes l) = rw (ne-eqb v w e, lt-ltb (position F X w) (position F X v) l, le-ltb (position F X v) (position F X w) (omega arith)) refl
         go (no e) (no l) =
@@ -80,20 +80,20 @@ module _ (F X : ℕ) where
             rw (ne-eqb v w e, le-ltb (position F X w) (position F X v) (omega arith), lt-ltb (position F X v) (position F X w) (omega (arith, n))) refl
 
     -- by its magnitude: above zero it rises where that grows, below zero where that shrinks
-    pub rises-plus : sign F X w ≡ 0 → (risen F X x mark place w ≡ true) ↔ (magnitude F X w < magnitude F X v)
+    pub rises-plus : sign F X w ≡ 0 → (risen F X x mark turn w ≡ true) ↔ (magnitude F X w < magnitude F X v)
     unfolding risen
     rises-plus z =
-        stays F X (λ u. (ltb (position F X w) (position F X u) ≡ true) ↔ (magnitude F X w < magnitude F X u)) x r mark place w
+        stays F X (λ u. (ltb (position F X w) (position F X u) ≡ true) ↔ (magnitude F X w < magnitude F X u)) x r mark turn w
         (λ t. absurd (omega (arith, ltb-true (position F X w) (position F X w) t)), λ l. absurd (omega (arith, l)))
         (λ p f g. (
           λ t. higher-only w v z (g .signed ∙ z) (ltb-true (position F X w) (position F X v) t),
           λ l. lt-ltb (position F X w) (position F X v) (higher w v z (g .signed ∙ z) l),
         ))
 
-    pub rises-minus : sign F X w ≢ 0 → (risen F X x mark place w ≡ true) ↔ (magnitude F X v < magnitude F X w)
+    pub rises-minus : sign F X w ≢ 0 → (risen F X x mark turn w ≡ true) ↔ (magnitude F X v < magnitude F X w)
     unfolding risen
     rises-minus z =
-        stays F X (λ u. (ltb (position F X w) (position F X u) ≡ true) ↔ (magnitude F X u < magnitude F X w)) x r mark place w
+        stays F X (λ u. (ltb (position F X w) (position F X u) ≡ true) ↔ (magnitude F X u < magnitude F X w)) x r mark turn w
         (λ t. absurd (omega (arith, ltb-true (position F X w) (position F X w) t)), λ l. absurd (omega (arith, l)))
         (λ p f g. (
           λ t. lower-only v w (λ y. z (sym (g .signed) ∙ y)) z (ltb-true (position F X w) (position F X v) t),
@@ -103,13 +103,13 @@ module _ (F X : ℕ) where
   -- ---- an array
 
   module _ (x : Method) (r : Ready x) (mark : ℕ) where
-    sums : (place : ℕ) (ws : List ℕ)
-        → countFrom F X (changed F X x mark) mark place ws ≡ countFrom F X (risen F X x mark) mark place ws + countFrom F X (fallen F X x mark) mark place ws
+    sums : (turn : ℕ) (ws : List ℕ)
+        → countFrom F X (changed F X x mark) mark turn ws ≡ countFrom F X (risen F X x mark) mark turn ws + countFrom F X (fallen F X x mark) mark turn ws
     unfolding countFrom
-    sums place [] = refl
-    sums place (w ∷ ws) =
-        let one = rose-or-fell x r mark place w in
-        let rest = sums (placeAfter F X mark w place) ws in
+    sums turn [] = refl
+    sums turn (w ∷ ws) =
+        let one = rose-or-fell x r mark turn w in
+        let rest = sums (turnAfter F X mark w turn) ws in
         omega (arith, one, rest)
 
     pub counts-sum : (ws : List ℕ) → counts F X x mark ws .changed-places ≡ counts F X x mark ws .risen-places + counts F X x mark ws .fallen-places

@@ -1,5 +1,5 @@
 -- Methods 4 and 5 keep a magnitude between any two points of their grid that it lies between, clipped or not.
-use mathlib.Core.Path.{_≡_, refl, ap}
+use mathlib.Core.Path.{_≡_, refl}
 use Prim.Native.Nat.{ℕ, _-_, _*_, _/_, _^_, _≤_, _<_}
 use native.Mathlib.Nat.{le-div-iff-mul-le, div-mul-le-self, mul-le-mul-right}
 use native.Mathlib.Decide.{decLt, decLe}
@@ -23,13 +23,13 @@ Between a b n = (a ≤ n) × (n ≤ b)
 module _ (F X : ℕ) where
   -- ---- clip: the result by the two cases of each test
 
-  pub round-within : (k place m : ℕ) → rounded (F - k) m < infinity F X → newMagnitude F X (round k) place m ≡ rounded (F - k) m
+  pub round-within : (k turn m : ℕ) → rounded (F - k) m < infinity F X → newMagnitude F X (round k) turn m ≡ rounded (F - k) m
   unfolding newMagnitude clips
-  round-within k place m h = rw (lt-leb (infinity F X) (rounded (F - k) m) h) refl
+  round-within k turn m h = rw (lt-leb (infinity F X) (rounded (F - k) m) h) refl
 
-  pub round-clipped : (k place m : ℕ) → infinity F X ≤ rounded (F - k) m → newMagnitude F X (round k) place m ≡ shaved (F - k) m
+  pub round-clipped : (k turn m : ℕ) → infinity F X ≤ rounded (F - k) m → newMagnitude F X (round k) turn m ≡ shaved (F - k) m
   unfolding newMagnitude clips
-  round-clipped k place m h = rw (le-leb (infinity F X) (rounded (F - k) m) h) refl
+  round-clipped k turn m h = rw (le-leb (infinity F X) (rounded (F - k) m) h) refl
 
   -- the largest finite size, and the largest multiple of 2 ^ q up to it
   abbrev pub cap : ℕ
@@ -45,13 +45,13 @@ module _ (F X : ℕ) where
 
   -- ---- finite stays finite
 
-  pub round-below : (k place m : ℕ) → m < infinity F X → newMagnitude F X (round k) place m < infinity F X
+  pub round-below : (k turn m : ℕ) → m < infinity F X → newMagnitude F X (round k) turn m < infinity F X
   unfolding shaved
-  round-below k place m h = go (decLt (rounded (F - k) m) (infinity F X))
+  round-below k turn m h = go (decLt (rounded (F - k) m) (infinity F X))
     where
-      go : Dec (rounded (F - k) m < infinity F X) → newMagnitude F X (round k) place m < infinity F X
-      go (yes f) = rw (round-within k place m f) f
-      go (no f) = rw (round-clipped k place m (omega arith)) (omega (arith, div-mul-le-self m (2 ^ (F - k))))
+      go : Dec (rounded (F - k) m < infinity F X) → newMagnitude F X (round k) turn m < infinity F X
+      go (yes f) = rw (round-within k turn m f) f
+      go (no f) = rw (round-clipped k turn m (omega arith)) (omega (arith, div-mul-le-self m (2 ^ (F - k))))
 
   absoluteSize-cap : (q m : ℕ) → absoluteSize F X q m ≤ cap
   absoluteSize-cap q m = go (decLe (multiple F q m) cap)
@@ -60,16 +60,16 @@ module _ (F X : ℕ) where
       go (yes c) = rw (absolute-within q m c) c
       go (no c) = rw (absolute-clipped q m (omega arith)) (div-mul-le-self cap (2 ^ q))
 
-  pub absolute-below : (q place m : ℕ) → m < infinity F X → newMagnitude F X (absolute q) place m < infinity F X
+  pub absolute-below : (q turn m : ℕ) → m < infinity F X → newMagnitude F X (absolute q) turn m < infinity F X
   unfolding newMagnitude
-  absolute-below q place m h =
+  absolute-below q turn m h =
       omega (arith, magnitudeOf-size F X (largest F X) (omega arith), magnitudeOf-mono F X (absoluteSize F X q m) cap (absoluteSize-cap q m))
 
   -- ---- between two points A and B of the grid
 
-  module _ (A B place m : ℕ) (l : A ≤ m) (h : m ≤ B) (fin : m < infinity F X) where
+  module _ (A B turn m : ℕ) (l : A ≤ m) (h : m ≤ B) (fin : m < infinity F X) where
     -- method 4: A and B are multiples of 2 ^ t as patterns
-    pub round-keeps : (k : ℕ) → Mult (2 ^ (F - k)) A → Mult (2 ^ (F - k)) B → Between A B (newMagnitude F X (round k) place m)
+    pub round-keeps : (k : ℕ) → Mult (2 ^ (F - k)) A → Mult (2 ^ (F - k)) B → Between A B (newMagnitude F X (round k) turn m)
     unfolding shaved rounded
     round-keeps k a b = go (decLt (rounded t m) (infinity F X))
       where
@@ -82,16 +82,16 @@ module _ (F X : ℕ) where
         floor : a .times ≤ m / 2 ^ t
         floor = le-div-iff-mul-le (pow-pos t) .1 (omega (arith, a .is))
 
-        go : Dec (rounded t m < infinity F X) → Between A B (newMagnitude F X (round k) place m)
+        go : Dec (rounded t m < infinity F X) → Between A B (newMagnitude F X (round k) turn m)
         go (yes f) =
-            rw (round-within k place m f)
+            rw (round-within k turn m f)
             (omega (arith, a .is, mul-le-mul-right (2 ^ t) (near .0)), omega (arith, b .is, mul-le-mul-right (2 ^ t) (near .1)))
         go (no f) =
-            rw (round-clipped k place m (omega arith))
+            rw (round-clipped k turn m (omega arith))
             (omega (arith, a .is, mul-le-mul-right (2 ^ t) floor), omega (arith, div-mul-le-self m (2 ^ t)))
 
     -- method 5: their sizes are multiples of 2 ^ q. B may lie beyond the largest finite magnitude.
-    pub absolute-keeps : (q : ℕ) → Mult (2 ^ q) (size F A) → Mult (2 ^ q) (size F B) → Between A B (newMagnitude F X (absolute q) place m)
+    pub absolute-keeps : (q : ℕ) → Mult (2 ^ q) (size F A) → Mult (2 ^ q) (size F B) → Between A B (newMagnitude F X (absolute q) turn m)
     unfolding newMagnitude multiple
     absolute-keeps q a b = go (decLe (multiple F q m) cap)
       where
@@ -121,7 +121,7 @@ module _ (F X : ℕ) where
             under (yes f) = omega (arith, magnitudeOf-size F X B f, magnitudeOf-mono F X r (size F B) y)
             under (no f) = omega (arith, bound)
 
-        go : Dec (multiple F q m ≤ cap) → Between A B (newMagnitude F X (absolute q) place m)
+        go : Dec (multiple F q m ≤ cap) → Between A B (newMagnitude F X (absolute q) turn m)
         go (yes c) =
             rw (absolute-within q m c)
             (back (nearest n g * g) (omega (arith, a .is, mul-le-mul-right g (near .0))) (omega (arith, b .is, mul-le-mul-right g (near .1))) c)

@@ -43,16 +43,16 @@ halfshaved-agree (suc t) m = go (ℕ-discrete m 0)
     go (yes z) = rw (eq-eqb m 0 z) refl
     go (no z) = rw (ne-eqb m 0 z) (tail-agree (suc t) m (2 ^ t) (pow-lt (le-refl (suc t))))
 
-pub tail-changed-agree : (c : TailMethod) (place t m : ℕ) → Agree t (tailChanged c place t m) m
+pub tail-changed-agree : (c : TailMethod) (turn t m : ℕ) → Agree t (tailChanged c turn t m) m
 unfolding tailChanged
-tail-changed-agree shave place t m = shaved-agree t m
-tail-changed-agree set place t m = set-agree t m
-tail-changed-agree groom place t m = go (ℕ-discrete (place % 2) 0)
+tail-changed-agree shave turn t m = shaved-agree t m
+tail-changed-agree set turn t m = set-agree t m
+tail-changed-agree groom turn t m = go (ℕ-discrete (turn % 2) 0)
   where
-    go : Dec (place % 2 ≡ 0) → Agree t (tailChanged groom place t m) m
-    go (yes z) = rw (eq-eqb (place % 2) 0 z) (shaved-agree t m)
-    go (no z) = rw (ne-eqb (place % 2) 0 z) (set-agree t m)
-tail-changed-agree halfshave place t m = halfshaved-agree t m
+    go : Dec (turn % 2 ≡ 0) → Agree t (tailChanged groom turn t m) m
+    go (yes z) = rw (eq-eqb (turn % 2) 0 z) (shaved-agree t m)
+    go (no z) = rw (ne-eqb (turn % 2) 0 z) (set-agree t m)
+tail-changed-agree halfshave turn t m = halfshaved-agree t m
 
 module _ (F X : ℕ) where
   -- magnitudes that agree above at most F bits are finite together

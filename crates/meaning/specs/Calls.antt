@@ -48,10 +48,11 @@ gain rose fell = cond rose (2 ^ 33) 0 + cond fell (2 ^ 34) 0
 
 -- what trimming one single says: its pattern, and with the gain whether its exact value rose, fell or stayed
 unfoldable pub told : Method → ℕ → ℕ → ℕ → ℕ
-told x mark place w = trimmed 23 8 x mark place w + gain (risen 23 8 x mark place w) (fallen 23 8 x mark place w)
+told x mark turn w = trimmed 23 8 x mark turn w + gain (risen 23 8 x mark turn w) (fallen 23 8 x mark turn w)
 
+-- document 02 (b): "The C loader passes the turn (how many present finite readings came before) instead of the place."
 unfoldable pub loader : ℕ → ℤ → ℕ → ℕ → ℕ → ℕ
-loader method setting mark place w = loaderNumber (answering (trimQuestions 23 8 method setting) (λ x. told x mark place w))
+loader method setting mark turn w = loaderNumber (answering (trimQuestions 23 8 method setting) (λ x. told x mark turn w))
 
 -- ---- packing and unpacking: the answer, and the lent arrays afterwards
 

@@ -1,4 +1,5 @@
--- Document 01, "Seven methods": on one reading, and on an array with its counts. A method works on magnitudes; the sign never changes.
+-- Document 01, "Seven methods", and document 02 (b), by which grooming takes turns: on one reading, and on an array with its counts. A method works on magnitudes; the
+-- sign never changes.
 use mathlib.Core.Bool.{Bool, false, cond, not, _&&_}
 use mathlib.Core.List.{List, [], _∷_}
 use Prim.Native.Nat.{ℕ, zero, suc, _+_, _-_, _*_, _/_, _%_, _^_}
@@ -36,12 +37,12 @@ unfoldable pub halfshaved : ℕ → ℕ → ℕ
 halfshaved zero m = m
 halfshaved (suc t) m = cond (eqb m 0) m (shaved (suc t) m + 2 ^ t)
 
--- methods 0 to 3 at a place; "shave at places 0, 2, 4 .. of the array, set at places 1, 3, 5 .."
+-- methods 0 to 3 at a turn, of which grooming alone takes notice; document 02 (b): "the first is shaved, the next set"
 unfoldable pub tailChanged : TailMethod → ℕ → ℕ → ℕ → ℕ
-tailChanged shave place t m = shaved t m
-tailChanged set place t m = tailSet t m
-tailChanged groom place t m = cond (eqb (place % 2) 0) (shaved t m) (tailSet t m)
-tailChanged halfshave place t m = halfshaved t m
+tailChanged shave turn t m = shaved t m
+tailChanged set turn t m = tailSet t m
+tailChanged groom turn t m = cond (eqb (turn % 2) 0) (shaved t m) (tailSet t m)
+tailChanged halfshave turn t m = halfshaved t m
 
 -- "the nearer of S and S + 2^t, taken as patterns; a tie goes to the one whose bit t is zero": the nearest multiple of 2^t, and bit t is the parity of M / 2^t
 unfoldable pub rounded : ℕ → ℕ → ℕ
@@ -97,14 +98,14 @@ module _ (F X : ℕ) where
 
   -- the new magnitude, where method 4 clips to S
   unfoldable pub newMagnitude : Method → ℕ → ℕ → ℕ
-  newMagnitude (tail c k) place m = tailChanged c place (F - k) m
-  newMagnitude (round k) place m = cond (clips (round k) m) (shaved (F - k) m) (rounded (F - k) m)
-  newMagnitude (absolute q) place m = magnitudeOf F X (absoluteSize q m)
-  newMagnitude (digits n) place m = cond (eqb m 0) m (magnitudeOf F X (digitSize n m))
+  newMagnitude (tail c k) turn m = tailChanged c turn (F - k) m
+  newMagnitude (round k) turn m = cond (clips (round k) m) (shaved (F - k) m) (rounded (F - k) m)
+  newMagnitude (absolute q) turn m = magnitudeOf F X (absoluteSize q m)
+  newMagnitude (digits n) turn m = cond (eqb m 0) m (magnitudeOf F X (digitSize n m))
 
   -- "The sign never changes."
   unfoldable pub result : Method → ℕ → ℕ → ℕ
-  result x place w = pattern F X (sign F X w) (newMagnitude x place (magnitude F X w))
+  result x turn w = pattern F X (sign F X w) (newMagnitude x turn (magnitude F X w))
 
   -- "Missing readings, infinities and every NaN are never changed by trimming."
   unfoldable pub trimmable : ℕ → ℕ → Bool
@@ -112,41 +113,46 @@ module _ (F X : ℕ) where
 
   -- "if the result, after clipping, would be the mark, the reading keeps its old pattern": counted as spared
   unfoldable pub spared : Method → ℕ → ℕ → ℕ → Bool
-  spared x mark place w = trimmable mark w && missing mark (result x place w)
+  spared x mark turn w = trimmable mark w && missing mark (result x turn w)
 
-  -- the pattern that an accepted trim leaves of a reading at a place
+  -- the pattern that an accepted trim leaves of a reading at a turn
   unfoldable pub trimmed : Method → ℕ → ℕ → ℕ → ℕ
-  trimmed x mark place w = cond (trimmable mark w && present mark (result x place w)) (result x place w) w
+  trimmed x mark turn w = cond (trimmable mark w && present mark (result x turn w)) (result x turn w) w
 
   -- "changed (pattern differs from before)", "clipped (and not then spared)"
   unfoldable pub changed : Method → ℕ → ℕ → ℕ → Bool
-  changed x mark place w = not (eqb (trimmed x mark place w) w)
+  changed x mark turn w = not (eqb (trimmed x mark turn w) w)
 
   unfoldable pub clipped : Method → ℕ → ℕ → ℕ → Bool
-  clipped x mark place w = trimmable mark w && present mark (result x place w) && clips x (magnitude F X w)
+  clipped x mark turn w = trimmable mark w && present mark (result x turn w) && clips x (magnitude F X w)
 
   -- document 02 (a): "whether the exact value rose, fell or stayed". Exact values have signs: a negative reading that is shaved rises
   unfoldable pub risen : Method → ℕ → ℕ → ℕ → Bool
-  risen x mark place w = ltb (position F X w) (position F X (trimmed x mark place w))
+  risen x mark turn w = ltb (position F X w) (position F X (trimmed x mark turn w))
 
   unfoldable pub fallen : Method → ℕ → ℕ → ℕ → Bool
-  fallen x mark place w = ltb (position F X (trimmed x mark place w)) (position F X w)
+  fallen x mark turn w = ltb (position F X (trimmed x mark turn w)) (position F X w)
 
   -- ---- an array
 
-  -- "missing readings count as places": the place after that of the reading w, whatever w is
-  unfoldable pub placeAfter : ℕ → ℕ → ℕ → ℕ
-  placeAfter mark w place = suc place
+  -- document 02 (b): "the alternation counts present finite readings .. zeros take a turn, missing readings and infinities and NaNs do not". The turn after the reading w
+  unfoldable pub turnAfter : ℕ → ℕ → ℕ → ℕ
+  turnAfter mark w turn = cond (trimmable mark w) (suc turn) turn
 
-  -- what an accepted trim leaves of the readings from a place on
+  -- "the turn (how many present finite readings came before)": how many there are among readings
+  unfoldable pub turnsIn : ℕ → List ℕ → ℕ
+  turnsIn mark [] = 0
+  turnsIn mark (w ∷ ws) = cond (trimmable mark w) 1 0 + turnsIn mark ws
+
+  -- what an accepted trim leaves of readings, from a turn on
   unfoldable pub trimFrom : Method → ℕ → ℕ → List ℕ → List ℕ
-  trimFrom x mark place [] = []
-  trimFrom x mark place (w ∷ ws) = trimmed x mark place w ∷ trimFrom x mark (placeAfter mark w place) ws
+  trimFrom x mark turn [] = []
+  trimFrom x mark turn (w ∷ ws) = trimmed x mark turn w ∷ trimFrom x mark (turnAfter mark w turn) ws
 
-  -- how many places from a place on pass a test
+  -- how many places pass a test, from a turn on
   unfoldable pub countFrom : (ℕ → ℕ → Bool) → ℕ → ℕ → List ℕ → ℕ
-  countFrom test mark place [] = 0
-  countFrom test mark place (w ∷ ws) = cond (test place w) 1 0 + countFrom test mark (placeAfter mark w place) ws
+  countFrom test mark turn [] = 0
+  countFrom test mark turn (w ∷ ws) = cond (test turn w) 1 0 + countFrom test mark (turnAfter mark w turn) ws
 
 -- "four counts of places"; document 02 (a): "the array's answer carries the numbers risen and fallen"
 pub record Counts : Type 0 where
@@ -164,7 +170,7 @@ module _ (F X : ℕ) where
         changed-places = countFrom F X (changed F X x mark) mark 0 ws;
         spared-places = countFrom F X (spared F X x mark) mark 0 ws;
         clipped-places = countFrom F X (clipped F X x mark) mark 0 ws;
-        missing-places = countFrom F X (λ place w. missing mark w) mark 0 ws;
+        missing-places = countFrom F X (λ turn w. missing mark w) mark 0 ws;
         risen-places = countFrom F X (risen F X x mark) mark 0 ws;
         fallen-places = countFrom F X (fallen F X x mark) mark 0 ws;
       }

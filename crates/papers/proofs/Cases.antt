@@ -5,7 +5,7 @@ use lib.Dec.{lit<}
 use Rattle.meaning.proofs.CasesRows.{afterAll}
 use Rattle.papers.specs.Moved.{moved}
 use Rattle.papers.specs.Listings.{masked, maskedHalf, addedMasked}
-use Rattle.papers.specs.Cases.{Attained, LeftCases, PiTables, Subnormal, Printed, DecimalBeyond, DigitsAgain, DigitsLeft, HalfshaveSharper, HalfshaveGroomed, ListingsBeyond, LayerTop, DoubleBeyond}
+use Rattle.papers.specs.Cases.{Attained, LeftCases, PiTables, Subnormal, Printed, DecimalBeyond, DigitsAgain, DigitsLeft, HalfshaveSharper, HalfshaveGroomed, GroomedByTurns, ListingsBeyond, LayerTop, DoubleBeyond}
 
 pub attained : Attained
 unfolding afterAll moved
@@ -59,6 +59,10 @@ halfshave-sharper = record { one-sharper = (refl, refl) }
 pub halfshave-groomed : HalfshaveGroomed
 unfolding afterAll
 halfshave-groomed = record { zero-made = (refl, refl); mark-made = (refl, refl) }
+
+pub groomed-by-turns : GroomedByTurns
+unfolding afterAll
+groomed-by-turns = record { gap-between = refl; infinity-between = refl }
 
 pub listings-beyond : ListingsBeyond
 unfolding masked maskedHalf addedMasked

@@ -70,24 +70,24 @@ module _ (F X : ℕ) where
           let e : 2 * d * 10 ^ (B + n) ≡ 2 * d * (A * 10 ^ n) = ap (λ (x : ℕ). 2 * d * x) (pow-add 10 B n) in
           omega (arith, r .under)
 
-  tail-kept : (c : TailMethod) (n k mark place w : ℕ) → Normal F X w → 2 * 10 ^ n ≤ 2 ^ k → HalfDigit F X n w (moved F X (tail c k) mark place w)
-  tail-kept c n k mark place w h l = kept n k w _ h l (relative-bounds F X .tail-relative c k mark place w h)
+  tail-kept : (c : TailMethod) (n k mark turn w : ℕ) → Normal F X w → 2 * 10 ^ n ≤ 2 ^ k → HalfDigit F X n w (moved F X (tail c k) mark turn w)
+  tail-kept c n k mark turn w h l = kept n k w _ h l (relative-bounds F X .tail-relative c k mark turn w h)
 
   -- round moves by half of what shave may
-  round-less : (k mark place w : ℕ) → Normal F X w → moved F X (round k) mark place w * 2 ^ k < size F (magnitude F X w)
-  round-less k mark place w h =
-      let d : ℕ = moved F X (round k) mark place w in
+  round-less : (k mark turn w : ℕ) → Normal F X w → moved F X (round k) mark turn w * 2 ^ k < size F (magnitude F X w)
+  round-less k mark turn w h =
+      let d : ℕ = moved F X (round k) mark turn w in
       let e : d * 2 ^ (k + 1) ≡ d * (2 ^ k * 2) = ap (λ (x : ℕ). d * x) (pow-add 2 k 1) in
-      omega (arith, relative-bounds F X .round-relative k mark place w h, e)
+      omega (arith, relative-bounds F X .round-relative k mark turn w h, e)
 
   pub decimal-bounds : DecimalBounds F X
   unfolding unit
   decimal-bounds =
       record {
-        digits-kept = λ c n k mark place w h l. tail-kept c n k mark place w h (omega arith);
-        nsd-kept = λ c n mark place w h a b. tail-kept c n (keepBits n) mark place w h (keep-bits .enough n a b);
-        round-kept = λ n mark place w h a b. kept n (keepBits n) w _ h (keep-bits .enough n a b) (round-less (keepBits n) mark place w h);
-        places-kept = λ r s mark place w h l c.
+        digits-kept = λ c n k mark turn w h l. tail-kept c n k mark turn w h (omega arith);
+        nsd-kept = λ c n mark turn w h a b. tail-kept c n (keepBits n) mark turn w h (keep-bits .enough n a b);
+        round-kept = λ n mark turn w h a b. kept n (keepBits n) w _ h (keep-bits .enough n a b) (round-less (keepBits n) mark turn w h);
+        places-kept = λ r s mark turn w h l c.
             let e : 2 ^ B ≡ 2 ^ (B - s) * 2 ^ s = pow-split B s h in
-            rw e (mul-le-mul (unit-bounds F X .absolute-moves (B - s) mark place w c) l);
+            rw e (mul-le-mul (unit-bounds F X .absolute-moves (B - s) mark turn w c) l);
       }

@@ -6,6 +6,7 @@ pub mod Bounds
 pub mod Relative
 pub mod Decimal
 pub mod DigitRounding
+pub mod Grooming
 pub mod Repetition
 pub mod Halfshaving
 pub mod LayerBounds

@@ -39,14 +39,14 @@ added-rounds (suc t) m h =
     rw (i, two, nearest-add m (2 ^ t) (pow-pos t))
     (ap (λ (x : ℕ). x / (2 * 2 ^ t) * (2 * 2 ^ t)) (let e : m + (m / (2 * 2 ^ t) % 2 + (2 ^ t - 1)) ≡ m + (2 ^ t - 1) + m / (2 * 2 ^ t) % 2 = omega arith in e))
 
-half-halfshaves : (place t m : ℕ) → 0 < t → m ≢ 0 → tailChanged halfshave place t m ≡ maskedHalf t m
+half-halfshaves : (turn t m : ℕ) → 0 < t → m ≢ 0 → tailChanged halfshave turn t m ≡ maskedHalf t m
 unfolding maskedHalf masked
-half-halfshaves place zero m h z = absurd (not-suc-le-zero h)
-half-halfshaves place (suc t) m h z = let i : suc t - 1 ≡ t = omega arith in rw i (halfshave-some place t m z)
+half-halfshaves turn zero m h z = absurd (not-suc-le-zero h)
+half-halfshaves turn (suc t) m h z = let i : suc t - 1 ≡ t = omega arith in rw i (halfshave-some turn t m z)
 
-mask-shaves : (place t m : ℕ) → tailChanged shave place t m ≡ masked t m
+mask-shaves : (turn t m : ℕ) → tailChanged shave turn t m ≡ masked t m
 unfolding masked
-mask-shaves place t m = shave-is place t m
+mask-shaves turn t m = shave-is turn t m
 
 module _ (F X : ℕ) where
   -- the sign as a multiple
@@ -69,24 +69,24 @@ module _ (F X : ℕ) where
         rw e (added-multiple t (s * 2 ^ (F + X - suc t)) m)
 
   -- a listing that does to magnitudes what the method does, and leaves the sign, does to patterns what the method does
-  lifts : (x : Method) (r : Ready x) (place w : ℕ) (f : ℕ → ℕ) → newMagnitude F X x place (magnitude F X w) ≡ f (magnitude F X w)
-      → f (pattern F X (sign F X w) (magnitude F X w)) ≡ pattern F X (sign F X w) (f (magnitude F X w)) → result F X x place w ≡ f w
-  lifts x r place w f e p = result-is F X x r place w ∙ ap (pattern F X (sign F X w)) e ∙ sym p ∙ ap f (pattern-back F X w)
+  lifts : (x : Method) (r : Ready x) (turn w : ℕ) (f : ℕ → ℕ) → newMagnitude F X x turn (magnitude F X w) ≡ f (magnitude F X w)
+      → f (pattern F X (sign F X w) (magnitude F X w)) ≡ pattern F X (sign F X w) (f (magnitude F X w)) → result F X x turn w ≡ f w
+  lifts x r turn w f e p = result-is F X x r turn w ∙ ap (pattern F X (sign F X w)) e ∙ sym p ∙ ap f (pattern-back F X w)
 
   pub listings : Listings F X
   unfolding clips
   listings =
       record {
-        A1-shaves = λ k place w.
-            lifts (tail shave k) tt place w (masked (F - k)) (tail-new F X shave k place (magnitude F X w) ∙ mask-shaves place (F - k) (magnitude F X w))
+        A1-shaves = λ k turn w.
+            lifts (tail shave k) tt turn w (masked (F - k)) (tail-new F X shave k turn (magnitude F X w) ∙ mask-shaves turn (F - k) (magnitude F X w))
             (masked-pattern (F - k) (sign F X w) (magnitude F X w) (sub-le F k));
-        A2-halfshaves = λ k place w h z.
-            lifts (tail halfshave k) tt place w (maskedHalf (F - k))
-            (tail-new F X halfshave k place (magnitude F X w) ∙ half-halfshaves place (F - k) (magnitude F X w) (omega arith) z)
+        A2-halfshaves = λ k turn w h z.
+            lifts (tail halfshave k) tt turn w (maskedHalf (F - k))
+            (tail-new F X halfshave k turn (magnitude F X w) ∙ half-halfshaves turn (F - k) (magnitude F X w) (omega arith) z)
             (half-pattern (F - k) (sign F X w) (magnitude F X w) (sub-le F k));
-        A4-rounds = λ x k place w h c.
-            lifts (round k) tt place w (addedMasked (F - k))
-            (round-within F X k place (magnitude F X w) (leb-false (infinity F X) (rounded (F - k) (magnitude F X w)) c)
+        A4-rounds = λ x k turn w h c.
+            lifts (round k) tt turn w (addedMasked (F - k))
+            (round-within F X k turn (magnitude F X w) (leb-false (infinity F X) (rounded (F - k) (magnitude F X w)) c)
             ∙ sym (added-rounds (F - k) (magnitude F X w) (omega arith)))
             (added-pattern (F - k) (sign F X w) (magnitude F X w) (sub-le F k) x);
       }

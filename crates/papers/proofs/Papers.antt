@@ -4,6 +4,7 @@ use Rattle.papers.proofs.Bounds.{unit-bounds, left-bounds}
 use Rattle.papers.proofs.Relative.{relative-bounds}
 use Rattle.papers.proofs.Decimal.{keep-bits, decimal-bounds}
 use Rattle.papers.proofs.DigitRounding.{digit-bounds}
+use Rattle.papers.proofs.Grooming.{grooming}
 use Rattle.papers.proofs.Repetition.{repetition, rounders}
 use Rattle.papers.proofs.Halfshaving.{halfshaving}
 use Rattle.papers.proofs.Listings.{listings}
@@ -11,7 +12,7 @@ use Rattle.papers.proofs.LayerBounds.{layer-bounds}
 use Rattle.papers.proofs.Unpacked.{unpacked}
 use Rattle.papers.proofs.Sent.{sent-unpacked}
 use Rattle.papers.proofs.Unbiased.{unbiased}
-use Rattle.papers.proofs.Cases.{attained, left-cases, pi-tables, subnormal, printed, decimal-beyond, digits-again, digits-left, halfshave-sharper, halfshave-groomed, listings-beyond, layer-top, double-beyond}
+use Rattle.papers.proofs.Cases.{attained, left-cases, pi-tables, subnormal, printed, decimal-beyond, digits-again, digits-left, halfshave-sharper, halfshave-groomed, groomed-by-turns, listings-beyond, layer-top, double-beyond}
 use Rattle.papers.proofs.CasesFar.{far-cases}
 
 pub papers : Papers
@@ -24,6 +25,7 @@ papers =
             relative-bounds = relative-bounds F X;
             decimal-bounds = decimal-bounds F X;
             digit-bounds = digit-bounds F X;
+            grooming = grooming F X;
             repetition = repetition F X;
             rounder = rounders F X;
             halfshaving = halfshaving F X;
@@ -44,6 +46,7 @@ papers =
       digits-left = digits-left;
       halfshave-sharper = halfshave-sharper;
       halfshave-groomed = halfshave-groomed;
+      groomed-by-turns = groomed-by-turns;
       listings-beyond = listings-beyond;
       layer-top = layer-top;
       double-beyond = double-beyond;

@@ -146,29 +146,29 @@ module _ (F X : ℕ) where
           let d : distance (size F m) (size F (shaved (F - k) m)) ≡ 0 = omega (arith, shaved-size F (F - k) m (sub-le F k), ap (λ (x : ℕ). x * 2 ^ e) o) in
           rw d (omega (arith, some-size F m n))
 
-  pub round-relative : (k place m : ℕ) → 2 ^ F ≤ m → m < infinity F X → distance (size F m) (size F (newMagnitude F X (round k) place m)) * 2 ^ (k + 1) < size F m
-  round-relative k place m n f = go (decLt (rounded (F - k) m) (infinity F X))
+  pub round-relative : (k turn m : ℕ) → 2 ^ F ≤ m → m < infinity F X → distance (size F m) (size F (newMagnitude F X (round k) turn m)) * 2 ^ (k + 1) < size F m
+  round-relative k turn m n f = go (decLt (rounded (F - k) m) (infinity F X))
     where
-      go : Dec (rounded (F - k) m < infinity F X) → distance (size F m) (size F (newMagnitude F X (round k) place m)) * 2 ^ (k + 1) < size F m
-      go (yes c) = rw (round-within F X k place m c) (round-part F k m n)
-      go (no c) = rw (round-clipped F X k place m (omega arith)) (clipped-part k m n f (omega arith))
+      go : Dec (rounded (F - k) m < infinity F X) → distance (size F m) (size F (newMagnitude F X (round k) turn m)) * 2 ^ (k + 1) < size F m
+      go (yes c) = rw (round-within F X k turn m c) (round-part F k m n)
+      go (no c) = rw (round-clipped F X k turn m (omega arith)) (clipped-part k m n f (omega arith))
 
   pub relative-bounds : RelativeBounds F X
   unfolding unit
   relative-bounds =
       record {
-        tail-relative = λ c k mark place w n.
+        tail-relative = λ c k mark turn w n.
             lt-of-lt-of-le
-            (whole-part F k (moved F X (tail c k) mark place w) (spacing F (magnitude F X w)) (unit-bounds F X .tail-moves c k mark place w)
+            (whole-part F k (moved F X (tail c k) mark turn w) (spacing F (magnitude F X w)) (unit-bounds F X .tail-moves c k mark turn w)
             (spacing-some F (magnitude F X w)))
             (normal-size F (magnitude F X w) n);
-        halfshave-relative = λ k mark place w n.
-            let l : moved F X (tail halfshave k) mark place w * 2 ^ (k + 1) ≤ 2 ^ F * spacing F (magnitude F X w) =
-            half-part F k (moved F X (tail halfshave k) mark place w) (spacing F (magnitude F X w)) (unit-bounds F X .tail-moves halfshave k mark place w) (halfshave-half F X k mark place w) in
+        halfshave-relative = λ k mark turn w n.
+            let l : moved F X (tail halfshave k) mark turn w * 2 ^ (k + 1) ≤ 2 ^ F * spacing F (magnitude F X w) =
+            half-part F k (moved F X (tail halfshave k) mark turn w) (spacing F (magnitude F X w)) (unit-bounds F X .tail-moves halfshave k mark turn w) (halfshave-half F X k mark turn w) in
             omega (arith, l, normal-size F (magnitude F X w) n, some-size F (magnitude F X w) n);
-        round-relative = λ k mark place w n.
-            moved-has F X (round k) tt place w mark (λ d. d * 2 ^ (k + 1) < size F (magnitude F X w)) (omega (arith, some-size F (magnitude F X w) n))
-            (λ f. round-relative k place (magnitude F X w) n f);
+        round-relative = λ k mark turn w n.
+            moved-has F X (round k) tt turn w mark (λ d. d * 2 ^ (k + 1) < size F (magnitude F X w)) (omega (arith, some-size F (magnitude F X w) n))
+            (λ f. round-relative k turn (magnitude F X w) n f);
         unit-part = λ c k w h n.
             let e : 2 ^ (F - k) * spacing F (magnitude F X w) * 2 ^ k ≡ 2 ^ F * spacing F (magnitude F X w) = rw (pow-split F k h) (omega arith) in
             let d : 2 ^ (F - k) * spacing F (magnitude F X w) * 2 ^ (k + 1) ≡ 2 ^ (F - k) * spacing F (magnitude F X w) * (2 ^ k * 2) = ap (λ (x : ℕ). 2 ^ (F - k) * spacing F (magnitude F X w) * x) (pow-add 2 k 1) in

@@ -2,13 +2,13 @@
 use mathlib.Core.Path.{_≡_, refl, sym, ap, ap₂, _∙_}
 use mathlib.Core.Logic.{_≢_}
 use mathlib.Core.List.{List, [], _∷_}
-use Prim.Native.Nat.{ℕ, suc, _+_, _-_, _*_, _/_, _%_, _^_, _≤_, _<_}
+use Prim.Native.Nat.{ℕ, _+_, _-_, _*_, _/_, _%_, _^_, _≤_, _<_}
 use native.Mathlib.Nat.{mul-assoc, mul-div-cancel, le-refl}
 use native.Mathlib.Decide.{decLe, decLt, ℕ-discrete}
 use native.Mathlib.Omega.{arith}
 use lib.Pow.{pow-pos, high, ones-lt, suc-ones}
 use Rattle.meaning.specs.Readings.{size, magnitude, infinity, largest}
-use Rattle.meaning.specs.Methods.{Method, TailMethod, shave, set, groom, halfshave, tail, round, absolute, digits, nearest, shaved, rounded, multiple, tailChanged, absoluteSize, newMagnitude, result, trimmed, placeAfter, trimFrom}
+use Rattle.meaning.specs.Methods.{Method, TailMethod, shave, set, groom, halfshave, tail, round, absolute, digits, nearest, shaved, rounded, multiple, tailChanged, absoluteSize, newMagnitude, result, trimmed, turnAfter, trimFrom}
 use Rattle.meaning.proofs.Powers.{pow-split}
 use Rattle.meaning.proofs.Sizes.{size-le}
 use Rattle.meaning.proofs.Patterns.{magnitudeOf-size}
@@ -18,6 +18,7 @@ use Rattle.meaning.proofs.Rounding.{cap, round-below, absolute-below, round-wit
 use Rattle.meaning.proofs.Absolute.{absolute-exact}
 use Rattle.meaning.proofs.Accepted.{Ready}
 use Rattle.meaning.proofs.OneReading.{trimmed-result}
+use Rattle.meaning.proofs.Turns.{same-turn}
 use Rattle.papers.specs.Repetition.{NoDigits, Repetition, Rounder}
 use Rattle.papers.proofs.Apart.{trimmed-has, result-is, result-magnitude, result-below, result-sign}
 use Rattle.papers.proofs.TailValues.{shave-is, set-some, shave-same, set-same, set-kept, halfshave-same, halfshave-kept, set-zero, groom-even, groom-odd, halfshave-zero}
@@ -25,32 +26,32 @@ use Rattle.papers.proofs.TailValues.{shave-is, set-some, shave-same, se
 -- ---- methods 0 to 3
 
 -- a longer tail after a shorter one: both agree above the longer
-tail-rounder : (c : TailMethod) (place t u m : ℕ) → t ≤ u → tailChanged c place u (tailChanged c place t m) ≡ tailChanged c place u m
-tail-rounder c place t u m h = go c (agree-up (tailChanged c place t m) m t u h (tail-changed-agree c place t m)) (ℕ-discrete m 0) (ℕ-discrete (place % 2) 0)
+tail-rounder : (c : TailMethod) (turn t u m : ℕ) → t ≤ u → tailChanged c turn u (tailChanged c turn t m) ≡ tailChanged c turn u m
+tail-rounder c turn t u m h = go c (agree-up (tailChanged c turn t m) m t u h (tail-changed-agree c turn t m)) (ℕ-discrete m 0) (ℕ-discrete (turn % 2) 0)
   where
-    down : Agree u (tailChanged shave place t m) m → tailChanged shave place u (tailChanged shave place t m) ≡ tailChanged shave place u m
-    down e = shave-same place u (tailChanged shave place t m) m e
+    down : Agree u (tailChanged shave turn t m) m → tailChanged shave turn u (tailChanged shave turn t m) ≡ tailChanged shave turn u m
+    down e = shave-same turn u (tailChanged shave turn t m) m e
 
-    up : Agree u (tailChanged set place t m) m → Dec (m ≡ 0) → tailChanged set place u (tailChanged set place t m) ≡ tailChanged set place u m
-    up e (yes z) = rw (z, set-zero place t) refl
-    up e (no z) = set-same place u (tailChanged set place t m) m (set-kept place t m z) z e
+    up : Agree u (tailChanged set turn t m) m → Dec (m ≡ 0) → tailChanged set turn u (tailChanged set turn t m) ≡ tailChanged set turn u m
+    up e (yes z) = rw (z, set-zero turn t) refl
+    up e (no z) = set-same turn u (tailChanged set turn t m) m (set-kept turn t m z) z e
 
-    go : (c : TailMethod) → Agree u (tailChanged c place t m) m → Dec (m ≡ 0) → Dec (place % 2 ≡ 0) → tailChanged c place u (tailChanged c place t m) ≡ tailChanged c place u m
+    go : (c : TailMethod) → Agree u (tailChanged c turn t m) m → Dec (m ≡ 0) → Dec (turn % 2 ≡ 0) → tailChanged c turn u (tailChanged c turn t m) ≡ tailChanged c turn u m
     go shave e z p = down e
     go set e z p = up e z
-    go groom e z (yes p) = rw (groom-even place t m p, groom-even place u (tailChanged shave place t m) p, groom-even place u m p) (down (rw (groom-even place t m p) at e))
-    go groom e z (no p) = rw (groom-odd place t m p, groom-odd place u (tailChanged set place t m) p, groom-odd place u m p) (up (rw (groom-odd place t m p) at e) z)
-    go halfshave e (yes z) p = rw (z, halfshave-zero place t) refl
-    go halfshave e (no z) p = halfshave-same place u (tailChanged halfshave place t m) m (halfshave-kept place t m z) z e
+    go groom e z (yes p) = rw (groom-even turn t m p, groom-even turn u (tailChanged shave turn t m) p, groom-even turn u m p) (down (rw (groom-even turn t m p) at e))
+    go groom e z (no p) = rw (groom-odd turn t m p, groom-odd turn u (tailChanged set turn t m) p, groom-odd turn u m p) (up (rw (groom-odd turn t m p) at e) z)
+    go halfshave e (yes z) p = rw (z, halfshave-zero turn t) refl
+    go halfshave e (no z) p = halfshave-same turn u (tailChanged halfshave turn t m) m (halfshave-kept turn t m z) z e
 
 -- a shorter tail after a longer one: it is of zeros or of ones already
-shave-finer : (place t u m : ℕ) → t ≤ u → tailChanged shave place t (tailChanged shave place u m) ≡ tailChanged shave place u m
-shave-finer place t u m h =
+shave-finer : (turn t u m : ℕ) → t ≤ u → tailChanged shave turn t (tailChanged shave turn u m) ≡ tailChanged shave turn u m
+shave-finer turn t u m h =
     let e : m / 2 ^ u * 2 ^ u ≡ m / 2 ^ u * 2 ^ (u - t) * 2 ^ t = ap (λ (x : ℕ). m / 2 ^ u * x) (pow-split u t h) ∙ sym (mul-assoc (m / 2 ^ u) (2 ^ (u - t)) (2 ^ t)) in
-    rw (shave-is place u m, shave-is place t (m / 2 ^ u * 2 ^ u), e, mul-div-cancel (m / 2 ^ u * 2 ^ (u - t)) (pow-pos t)) refl
+    rw (shave-is turn u m, shave-is turn t (m / 2 ^ u * 2 ^ u), e, mul-div-cancel (m / 2 ^ u * 2 ^ (u - t)) (pow-pos t)) refl
 
-set-finer : (place t u m : ℕ) → t ≤ u → tailChanged set place t (tailChanged set place u m) ≡ tailChanged set place u m
-set-finer place t u m h = go (ℕ-discrete m 0)
+set-finer : (turn t u m : ℕ) → t ≤ u → tailChanged set turn t (tailChanged set turn u m) ≡ tailChanged set turn u m
+set-finer turn t u m h = go (ℕ-discrete m 0)
   where
     a : ℕ
     a = m / 2 ^ u * 2 ^ (u - t) + (2 ^ (u - t) - 1)
@@ -59,21 +60,21 @@ set-finer place t u m h = go (ℕ-discrete m 0)
     is =
         omega (arith, pow-split u t h, ap (λ (x : ℕ). m / 2 ^ u * x) (pow-split u t h), ap (λ (x : ℕ). x * 2 ^ t) (suc-ones (u - t)), pow-pos t)
 
-    go : Dec (m ≡ 0) → tailChanged set place t (tailChanged set place u m) ≡ tailChanged set place u m
-    go (yes z) = rw (z, set-zero place u) (set-zero place t)
+    go : Dec (m ≡ 0) → tailChanged set turn t (tailChanged set turn u m) ≡ tailChanged set turn u m
+    go (yes z) = rw (z, set-zero turn u) (set-zero turn t)
     go (no z) =
-        let x : tailChanged set place u m ≡ a * 2 ^ t + (2 ^ t - 1) = set-some place u m z ∙ is in
-        set-some place t (tailChanged set place u m) (set-kept place u m z) ∙ rw (x, high a t (ones-lt t)) refl
+        let x : tailChanged set turn u m ≡ a * 2 ^ t + (2 ^ t - 1) = set-some turn u m z ∙ is in
+        set-some turn t (tailChanged set turn u m) (set-kept turn u m z) ∙ rw (x, high a t (ones-lt t)) refl
 
-tail-finer : (c : TailMethod) → c ≢ halfshave → (place t u m : ℕ) → t ≤ u → tailChanged c place t (tailChanged c place u m) ≡ tailChanged c place u m
-tail-finer shave n place t u m h = shave-finer place t u m h
-tail-finer set n place t u m h = set-finer place t u m h
-tail-finer groom n place t u m h = go (ℕ-discrete (place % 2) 0)
+tail-finer : (c : TailMethod) → c ≢ halfshave → (turn t u m : ℕ) → t ≤ u → tailChanged c turn t (tailChanged c turn u m) ≡ tailChanged c turn u m
+tail-finer shave n turn t u m h = shave-finer turn t u m h
+tail-finer set n turn t u m h = set-finer turn t u m h
+tail-finer groom n turn t u m h = go (ℕ-discrete (turn % 2) 0)
   where
-    go : Dec (place % 2 ≡ 0) → tailChanged groom place t (tailChanged groom place u m) ≡ tailChanged groom place u m
-    go (yes z) = rw (groom-even place u m z, groom-even place t (tailChanged shave place u m) z) (shave-finer place t u m h)
-    go (no z) = rw (groom-odd place u m z, groom-odd place t (tailChanged set place u m) z) (set-finer place t u m h)
-tail-finer halfshave n place t u m h = absurd (n refl)
+    go : Dec (turn % 2 ≡ 0) → tailChanged groom turn t (tailChanged groom turn u m) ≡ tailChanged groom turn u m
+    go (yes z) = rw (groom-even turn u m z, groom-even turn t (tailChanged shave turn u m) z) (shave-finer turn t u m h)
+    go (no z) = rw (groom-odd turn u m z, groom-odd turn t (tailChanged set turn u m) z) (set-finer turn t u m h)
+tail-finer halfshave n turn t u m h = absurd (n refl)
 
 module _ (F X : ℕ) where
   -- method 4: both neighbours are their own nearest
@@ -81,21 +82,21 @@ module _ (F X : ℕ) where
   unfolding rounded
   grid-again t j = ap (λ (x : ℕ). x * 2 ^ t) (nearest-multiple j (2 ^ t) (pow-pos t))
 
-  round-grid : (k place m : ℕ) → (j : ℕ) × (newMagnitude F X (round k) place m ≡ j * 2 ^ (F - k))
+  round-grid : (k turn m : ℕ) → (j : ℕ) × (newMagnitude F X (round k) turn m ≡ j * 2 ^ (F - k))
   unfolding rounded shaved
-  round-grid k place m = go (decLt (rounded (F - k) m) (infinity F X))
+  round-grid k turn m = go (decLt (rounded (F - k) m) (infinity F X))
     where
-      go : Dec (rounded (F - k) m < infinity F X) → (j : ℕ) × (newMagnitude F X (round k) place m ≡ j * 2 ^ (F - k))
-      go (yes f) = (nearest m (2 ^ (F - k)), round-within F X k place m f)
-      go (no f) = (m / 2 ^ (F - k), round-clipped F X k place m (omega arith))
+      go : Dec (rounded (F - k) m < infinity F X) → (j : ℕ) × (newMagnitude F X (round k) turn m ≡ j * 2 ^ (F - k))
+      go (yes f) = (nearest m (2 ^ (F - k)), round-within F X k turn m f)
+      go (no f) = (m / 2 ^ (F - k), round-clipped F X k turn m (omega arith))
 
-  round-finer : (k j place m : ℕ) → k ≤ j → m < infinity F X → newMagnitude F X (round j) place (newMagnitude F X (round k) place m) ≡ newMagnitude F X (round k) place m
-  round-finer k j place m h f =
-      let d = round-grid k place m in
-      let e : newMagnitude F X (round k) place m ≡ d .0 * 2 ^ (F - k - (F - j)) * 2 ^ (F - j) =
+  round-finer : (k j turn m : ℕ) → k ≤ j → m < infinity F X → newMagnitude F X (round j) turn (newMagnitude F X (round k) turn m) ≡ newMagnitude F X (round k) turn m
+  round-finer k j turn m h f =
+      let d = round-grid k turn m in
+      let e : newMagnitude F X (round k) turn m ≡ d .0 * 2 ^ (F - k - (F - j)) * 2 ^ (F - j) =
       d .1 ∙ ap (λ (x : ℕ). d .0 * x) (pow-split (F - k) (F - j) (omega arith)) ∙ sym (mul-assoc (d .0) (2 ^ (F - k - (F - j))) (2 ^ (F - j))) in
-      let g : rounded (F - j) (newMagnitude F X (round k) place m) ≡ newMagnitude F X (round k) place m = rw e (grid-again (F - j) (d .0 * 2 ^ (F - k - (F - j)))) in
-      round-within F X j place (newMagnitude F X (round k) place m) (rw g (round-below F X k place m f)) ∙ g
+      let g : rounded (F - j) (newMagnitude F X (round k) turn m) ≡ newMagnitude F X (round k) turn m = rw e (grid-again (F - j) (d .0 * 2 ^ (F - k - (F - j)))) in
+      round-within F X j turn (newMagnitude F X (round k) turn m) (rw g (round-below F X k turn m f)) ∙ g
 
   -- method 5: the new size is its own nearest multiple
   absolute-grid : (q m : ℕ) → (j : ℕ) × (absoluteSize F X q m ≡ j * 2 ^ q)
@@ -110,27 +111,27 @@ module _ (F X : ℕ) where
   unfolding multiple
   multiple-again q v j e = rw e (ap (λ (x : ℕ). x * 2 ^ q) (nearest-multiple j (2 ^ q) (pow-pos q)))
 
-  absolute-still : (q place v : ℕ) → v < infinity F X → multiple F q v ≡ size F v → newMagnitude F X (absolute q) place v ≡ v
+  absolute-still : (q turn v : ℕ) → v < infinity F X → multiple F q v ≡ size F v → newMagnitude F X (absolute q) turn v ≡ v
   unfolding newMagnitude
-  absolute-still q place v f e =
+  absolute-still q turn v f e =
       rw (absolute-within F X q v (rw e (size-le F {m = v} {n = largest F X} (omega arith))), e) (magnitudeOf-size F X v f)
 
-  absolute-finer : (p q place m : ℕ) → q ≤ p → m < infinity F X → newMagnitude F X (absolute q) place (newMagnitude F X (absolute p) place m) ≡ newMagnitude F X (absolute p) place m
-  absolute-finer p q place m h f =
+  absolute-finer : (p q turn m : ℕ) → q ≤ p → m < infinity F X → newMagnitude F X (absolute q) turn (newMagnitude F X (absolute p) turn m) ≡ newMagnitude F X (absolute p) turn m
+  absolute-finer p q turn m h f =
       let d = absolute-grid p m in
-      let v : ℕ = newMagnitude F X (absolute p) place m in
-      absolute-still q place v (absolute-below F X p place m f)
-      (multiple-again q v (d .0 * 2 ^ (p - q)) (absolute-exact F X p place m f ∙ d .1 ∙ ap (λ (x : ℕ). d .0 * x) (pow-split p q h) ∙ sym (mul-assoc (d .0) (2 ^ (p - q)) (2 ^ q))))
+      let v : ℕ = newMagnitude F X (absolute p) turn m in
+      absolute-still q turn v (absolute-below F X p turn m f)
+      (multiple-again q v (d .0 * 2 ^ (p - q)) (absolute-exact F X p turn m f ∙ d .1 ∙ ap (λ (x : ℕ). d .0 * x) (pow-split p q h) ∙ sym (mul-assoc (d .0) (2 ^ (p - q)) (2 ^ q))))
 
   -- ---- the same of settings
 
-  rounder : (c : TailMethod) (k j place m : ℕ) → k ≤ j → newMagnitude F X (tail c k) place (newMagnitude F X (tail c j) place m) ≡ newMagnitude F X (tail c k) place m
+  rounder : (c : TailMethod) (k j turn m : ℕ) → k ≤ j → newMagnitude F X (tail c k) turn (newMagnitude F X (tail c j) turn m) ≡ newMagnitude F X (tail c k) turn m
   unfolding newMagnitude
-  rounder c k j place m h = tail-rounder c place (F - j) (F - k) m (omega arith)
+  rounder c k j turn m h = tail-rounder c turn (F - j) (F - k) m (omega arith)
 
-  no-sharper : (c : TailMethod) → c ≢ halfshave → (k j place m : ℕ) → k ≤ j → newMagnitude F X (tail c j) place (newMagnitude F X (tail c k) place m) ≡ newMagnitude F X (tail c k) place m
+  no-sharper : (c : TailMethod) → c ≢ halfshave → (k j turn m : ℕ) → k ≤ j → newMagnitude F X (tail c j) turn (newMagnitude F X (tail c k) turn m) ≡ newMagnitude F X (tail c k) turn m
   unfolding newMagnitude
-  no-sharper c n k j place m h = tail-finer c n place (F - j) (F - k) m (omega arith)
+  no-sharper c n k j turn m h = tail-finer c n turn (F - j) (F - k) m (omega arith)
 
   pub rounders : Rounder F X
   rounders = record { tail-rounder = rounder; tail-no-sharper = no-sharper; round-no-sharper = round-finer; absolute-no-sharper = absolute-finer }
@@ -140,11 +141,11 @@ module _ (F X : ℕ) where
   no-digits : (n : ℕ) → NoDigits (digits n) → ⊥
   no-digits n h = h n (ap digits (omega arith))
 
-  again : (x : Method) → NoDigits x → (place m : ℕ) → m < infinity F X → newMagnitude F X x place (newMagnitude F X x place m) ≡ newMagnitude F X x place m
-  again (tail c k) h place m f = rounder c k k place m (le-refl k)
-  again (round k) h place m f = round-finer k k place m (le-refl k) f
-  again (absolute q) h place m f = absolute-finer q q place m (le-refl q) f
-  again (digits n) h place m f = absurd (no-digits n h)
+  again : (x : Method) → NoDigits x → (turn m : ℕ) → m < infinity F X → newMagnitude F X x turn (newMagnitude F X x turn m) ≡ newMagnitude F X x turn m
+  again (tail c k) h turn m f = rounder c k k turn m (le-refl k)
+  again (round k) h turn m f = round-finer k k turn m (le-refl k) f
+  again (absolute q) h turn m f = absolute-finer q q turn m (le-refl q) f
+  again (digits n) h turn m f = absurd (no-digits n h)
 
   ready : (x : Method) → NoDigits x → Ready x
   ready (tail c k) h = tt
@@ -152,24 +153,26 @@ module _ (F X : ℕ) where
   ready (absolute q) h = tt
   ready (digits n) h = absurd (no-digits n h)
 
-  module _ (x : Method) (h : NoDigits x) (place w : ℕ) where
+  module _ (x : Method) (h : NoDigits x) (turn w : ℕ) where
     -- the result is its own result
-    result-again : magnitude F X w < infinity F X → result F X x place (result F X x place w) ≡ result F X x place w
+    result-again : magnitude F X w < infinity F X → result F X x turn (result F X x turn w) ≡ result F X x turn w
     result-again f =
-        result-is F X x (ready x h) place (result F X x place w)
-        ∙ rw (result-sign F X x (ready x h) place w f, result-magnitude F X x (ready x h) place w f, again x h place (magnitude F X w) f)
-        (sym (result-is F X x (ready x h) place w))
+        result-is F X x (ready x h) turn (result F X x turn w)
+        ∙ rw (result-sign F X x (ready x h) turn w f, result-magnitude F X x (ready x h) turn w f, again x h turn (magnitude F X w) f)
+        (sym (result-is F X x (ready x h) turn w))
 
-    reading-again : (mark : ℕ) → trimmed F X x mark place (trimmed F X x mark place w) ≡ trimmed F X x mark place w
+    reading-again : (mark : ℕ) → trimmed F X x mark turn (trimmed F X x mark turn w) ≡ trimmed F X x mark turn w
     reading-again mark =
-        trimmed-has F X x (ready x h) place w mark (λ v. trimmed F X x mark place v ≡ v) (λ e. e)
+        trimmed-has F X x (ready x h) turn w mark (λ v. trimmed F X x mark turn v ≡ v) (λ e. e)
         (λ p f s.
-        trimmed-result F X x mark place (result F X x place w) s (result-below F X x (ready x h) place w f) (λ e. s (sym (result-again f) ∙ e)) ∙ result-again f)
+        trimmed-result F X x mark turn (result F X x turn w) s (result-below F X x (ready x h) turn w f) (λ e. s (sym (result-again f) ∙ e)) ∙ result-again f)
 
-  array-again : (x : Method) → NoDigits x → (mark place : ℕ) (ws : List ℕ) → trimFrom F X x mark place (trimFrom F X x mark place ws) ≡ trimFrom F X x mark place ws
-  unfolding trimFrom placeAfter
-  array-again x h mark place [] = refl
-  array-again x h mark place (w ∷ ws) = ap₂ (λ (v : ℕ) (vs : List ℕ). v ∷ vs) (reading-again x h place w mark) (array-again x h mark (suc place) ws)
+  array-again : (x : Method) → NoDigits x → (mark turn : ℕ) (ws : List ℕ) → trimFrom F X x mark turn (trimFrom F X x mark turn ws) ≡ trimFrom F X x mark turn ws
+  unfolding trimFrom
+  array-again x h mark turn [] = refl
+  array-again x h mark turn (w ∷ ws) =
+      ap₂ (λ (v : ℕ) (vs : List ℕ). v ∷ vs) (reading-again x h turn w mark)
+      (ap (λ (t : ℕ). trimFrom F X x mark t (trimFrom F X x mark (turnAfter F X mark w turn) ws)) (same-turn F X mark x (ready x h) turn w) ∙ array-again x h mark (turnAfter F X mark w turn) ws)
 
   pub repetition : Repetition F X
-  repetition = record { reading-stays = λ x h mark place w. reading-again x h place w mark; array-stays = array-again }
+  repetition = record { reading-stays = λ x h mark turn w. reading-again x h turn w mark; array-stays = array-again }

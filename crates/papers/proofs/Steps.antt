@@ -60,14 +60,14 @@ module _ (F : ℕ) where
           omega (arith, d, mul-le-mul-right {m = n - m} {n = D} (2 ^ spacingExp F m) (omega arith))
 
   -- methods 0 to 3
-  pub tail-step : (c : TailMethod) (place t m : ℕ) → t ≤ F → distance (size F m) (size F (tailChanged c place t m)) + spacing F m ≤ 2 ^ t * spacing F m
-  tail-step c place t m h = omega (arith, within m n (2 ^ t - 1) t h (sym e) a b, ap (λ (x : ℕ). x * spacing F m) (suc-ones t))
+  pub tail-step : (c : TailMethod) (turn t m : ℕ) → t ≤ F → distance (size F m) (size F (tailChanged c turn t m)) + spacing F m ≤ 2 ^ t * spacing F m
+  tail-step c turn t m h = omega (arith, within m n (2 ^ t - 1) t h (sym e) a b, ap (λ (x : ℕ). x * spacing F m) (suc-ones t))
     where
       n : ℕ
-      n = tailChanged c place t m
+      n = tailChanged c turn t m
 
       e : Agree t n m
-      e = tail-changed-agree c place t m
+      e = tail-changed-agree c turn t m
 
       sm : m / 2 ^ t * 2 ^ t + m % 2 ^ t ≡ m
       sm = div-add-mod' m (2 ^ t)
@@ -81,21 +81,21 @@ module _ (F : ℕ) where
       b : n ≤ m + (2 ^ t - 1)
       b = omega (arith, sm, sn, mod-lt n (pow-pos t))
 
-  pub halfshave-step : (place t m : ℕ) → t ≤ F → 2 * distance (size F m) (size F (tailChanged halfshave place t m)) ≤ 2 ^ t * spacing F m
-  halfshave-step place zero m h = rw (halfshave-none place m, distance-self (size F m)) (omega arith)
-  halfshave-step place (suc u) m h = go (ℕ-discrete m 0)
+  pub halfshave-step : (turn t m : ℕ) → t ≤ F → 2 * distance (size F m) (size F (tailChanged halfshave turn t m)) ≤ 2 ^ t * spacing F m
+  halfshave-step turn zero m h = rw (halfshave-none turn m, distance-self (size F m)) (omega arith)
+  halfshave-step turn (suc u) m h = go (ℕ-discrete m 0)
     where
-      near : (n : ℕ) → tailChanged halfshave place (suc u) m ≡ n → m ≤ n + 2 ^ u → n ≤ m + 2 ^ u
-          → 2 * distance (size F m) (size F (tailChanged halfshave place (suc u) m)) ≤ 2 ^ suc u * spacing F m
+      near : (n : ℕ) → tailChanged halfshave turn (suc u) m ≡ n → m ≤ n + 2 ^ u → n ≤ m + 2 ^ u
+          → 2 * distance (size F m) (size F (tailChanged halfshave turn (suc u) m)) ≤ 2 ^ suc u * spacing F m
       near n i a b =
-          omega (arith, within m (tailChanged halfshave place (suc u) m) (2 ^ u) (suc u) h (sym (tail-changed-agree halfshave place (suc u) m)) (rw i a) (rw i b), ap (λ (x : ℕ). x * spacing F m) (pow-suc 2 u))
+          omega (arith, within m (tailChanged halfshave turn (suc u) m) (2 ^ u) (suc u) h (sym (tail-changed-agree halfshave turn (suc u) m)) (rw i a) (rw i b), ap (λ (x : ℕ). x * spacing F m) (pow-suc 2 u))
 
-      go : Dec (m ≡ 0) → 2 * distance (size F m) (size F (tailChanged halfshave place (suc u) m)) ≤ 2 ^ suc u * spacing F m
-      go (yes z) = near m (rw z (halfshave-zero place (suc u))) (omega arith) (omega arith)
+      go : Dec (m ≡ 0) → 2 * distance (size F m) (size F (tailChanged halfshave turn (suc u) m)) ≤ 2 ^ suc u * spacing F m
+      go (yes z) = near m (rw z (halfshave-zero turn (suc u))) (omega arith) (omega arith)
       go (no z) =
           let s : m / 2 ^ suc u * 2 ^ suc u + m % 2 ^ suc u ≡ m = div-add-mod' m (2 ^ suc u) in
           let l : m % 2 ^ suc u < 2 ^ suc u = mod-lt m (pow-pos (suc u)) in
-          near (m / 2 ^ suc u * 2 ^ suc u + 2 ^ u) (halfshave-some place u m z) (omega (arith, s, l)) (omega (arith, s, l))
+          near (m / 2 ^ suc u * 2 ^ suc u + 2 ^ u) (halfshave-some turn u m z) (omega (arith, s, l)) (omega (arith, s, l))
 
   -- S and what is above it, in sizes
   pub shaved-size : (t m : ℕ) → t ≤ F → size F m ≡ size F (shaved t m) + m % 2 ^ t * spacing F m
@@ -147,29 +147,29 @@ module _ (F : ℕ) where
 
 module _ (F X : ℕ) where
   -- method 4
-  pub round-half : (k place m : ℕ) → rounded (F - k) m < infinity F X
-      → 2 * distance (size F m) (size F (newMagnitude F X (round k) place m)) ≤ 2 ^ (F - k) * spacing F m
-  round-half k place m l = rw (round-within F X k place m l) (round-step F (F - k) m (sub-le F k) .0)
+  pub round-half : (k turn m : ℕ) → rounded (F - k) m < infinity F X
+      → 2 * distance (size F m) (size F (newMagnitude F X (round k) turn m)) ≤ 2 ^ (F - k) * spacing F m
+  round-half k turn m l = rw (round-within F X k turn m l) (round-step F (F - k) m (sub-le F k) .0)
 
-  pub round-whole : (k place m : ℕ) → distance (size F m) (size F (newMagnitude F X (round k) place m)) + spacing F m ≤ 2 ^ (F - k) * spacing F m
+  pub round-whole : (k turn m : ℕ) → distance (size F m) (size F (newMagnitude F X (round k) turn m)) + spacing F m ≤ 2 ^ (F - k) * spacing F m
   unfolding tailChanged
-  round-whole k place m = go (decLt (rounded (F - k) m) (infinity F X)) (tail-step F shave place (F - k) m (sub-le F k))
+  round-whole k turn m = go (decLt (rounded (F - k) m) (infinity F X)) (tail-step F shave turn (F - k) m (sub-le F k))
     where
       go : Dec (rounded (F - k) m < infinity F X) → distance (size F m) (size F (shaved (F - k) m)) + spacing F m ≤ 2 ^ (F - k) * spacing F m
-          → distance (size F m) (size F (newMagnitude F X (round k) place m)) + spacing F m ≤ 2 ^ (F - k) * spacing F m
-      go (yes f) c = rw (round-within F X k place m f) (round-step F (F - k) m (sub-le F k) .1)
-      go (no f) c = rw (round-clipped F X k place m (omega arith)) c
+          → distance (size F m) (size F (newMagnitude F X (round k) turn m)) + spacing F m ≤ 2 ^ (F - k) * spacing F m
+      go (yes f) c = rw (round-within F X k turn m f) (round-step F (F - k) m (sub-le F k) .1)
+      go (no f) c = rw (round-clipped F X k turn m (omega arith)) c
 
   -- method 5
-  pub absolute-half : (q place m : ℕ) → m < infinity F X → clips F X (absolute q) m ≡ false
-      → 2 * distance (size F m) (size F (newMagnitude F X (absolute q) place m)) ≤ 2 ^ q
+  pub absolute-half : (q turn m : ℕ) → m < infinity F X → clips F X (absolute q) m ≡ false
+      → 2 * distance (size F m) (size F (newMagnitude F X (absolute q) turn m)) ≤ 2 ^ q
   unfolding clips
-  absolute-half q place m f c =
-      rw (absolute-exact F X q place m f, absolute-within F X q m (ltb-false (cap F X) (multiple F q m) c)) (multiple-step F q m)
+  absolute-half q turn m f c =
+      rw (absolute-exact F X q turn m f, absolute-within F X q m (ltb-false (cap F X) (multiple F q m) c)) (multiple-step F q m)
 
-  pub absolute-whole : (q place m : ℕ) → m < infinity F X → distance (size F m) (size F (newMagnitude F X (absolute q) place m)) < 2 ^ q
+  pub absolute-whole : (q turn m : ℕ) → m < infinity F X → distance (size F m) (size F (newMagnitude F X (absolute q) turn m)) < 2 ^ q
   unfolding distance multiple
-  absolute-whole q place m f = rw (absolute-exact F X q place m f) (go (decLe (multiple F q m) (cap F X)))
+  absolute-whole q turn m f = rw (absolute-exact F X q turn m f) (go (decLe (multiple F q m) (cap F X)))
     where
       g : ℕ
       g = 2 ^ q

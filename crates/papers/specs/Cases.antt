@@ -4,7 +4,7 @@ use mathlib.Core.Bool.{true}
 use mathlib.Core.List.{[], _∷_, map}
 use Prim.Native.Nat.{ℕ, _+_, _-_, _*_, _^_, _<_}
 use Rattle.meaning.specs.Readings.{magnitude, position, distance}
-use Rattle.meaning.specs.Methods.{Method, tail, shave, set, groom, halfshave, round, absolute, digits, decade, digitStep, clips, trimmed}
+use Rattle.meaning.specs.Methods.{Method, tail, shave, set, groom, halfshave, round, absolute, digits, decade, digitStep, clips, trimmed, trimFrom}
 use Rattle.meaning.specs.Layers.{Layer}
 use Rattle.meaning.specs.Calls.{largestUnit}
 use Rattle.meaning.specs.Claim.{Coded}
@@ -13,9 +13,9 @@ use Rattle.papers.specs.Listings.{maskedHalf, addedMasked}
 use Rattle.papers.specs.LayerBounds.{layer, meaningAt}
 use Rattle.papers.specs.Unpacked.{double, apart}
 
--- by how many least spacings a call moves a single at a place; the size, the spacing and the unit there
+-- by how many least spacings a call moves a single at a turn; the size, the spacing and the unit there
 abbrev by : Method → ℕ → ℕ → ℕ
-by x place w = moved 23 8 x 0x7CF00000 place w
+by x turn w = moved 23 8 x 0x7CF00000 turn w
 
 abbrev sizeAt : ℕ → ℕ
 sizeAt w = sizeOf 23 8 w
@@ -26,13 +26,13 @@ spacingAt w = spacingOf 23 8 w
 abbrev unitAt : Method → ℕ → ℕ
 unitAt x w = unitOf 23 8 x w
 
--- what a call leaves of it at place 0
+-- what a call leaves of it at turn 0
 abbrev left : Method → ℕ → ℕ
 left x w = trimmed 23 8 x 0x7CF00000 0 w
 
 -- The bounds are attained.
 pub record Attained : Type 0 where
-  -- 7 keep bits: a tail of ones shaved, and a tail of zeros set, move by a unit less one spacing; groom does both, at places 0 and 1
+  -- 7 keep bits: a tail of ones shaved, and a tail of zeros set, move by a unit less one spacing; groom does both, at turns 0 and 1
   pub shave-whole : by (tail shave 7) 0 0x3F80FFFF + spacingAt 0x3F80FFFF ≡ unitAt (tail shave 7) 0x3F80FFFF
   pub set-whole : by (tail set 7) 0 0x3F800000 + spacingAt 0x3F800000 ≡ unitAt (tail set 7) 0x3F800000
   pub groom-whole :
@@ -118,7 +118,7 @@ pub record DigitsLeft : Type 0 where
 pub record HalfshaveSharper : Type 0 where
   pub one-sharper : (left (tail halfshave 7) 0x3F800000 ≡ 0x3F808000) × (left (tail halfshave 8) 0x3F808000 ≡ 0x3F80C000)
 
--- 003, section 3: halfshaving what groom left is not halfshaving the original, with 7 keep bits at place 0
+-- 003, section 3: halfshaving what groom left is not halfshaving the original, with 7 keep bits at turn 0
 pub record HalfshaveGroomed : Type 0 where
   -- where grooming made zero of 00000001, which halfshave leaves
   pub zero-made : (left (tail halfshave 7) (left (tail groom 7) 0x00000001) ≡ 0x00000000) × (left (tail halfshave 7) 0x00000001 ≡ 0x00008000)
@@ -126,6 +126,11 @@ pub record HalfshaveGroomed : Type 0 where
   pub mark-made :
       (trimmed 23 8 (tail halfshave 7) 0x40498000 0 (trimmed 23 8 (tail groom 7) 0x40498000 0 0x40490FDB) ≡ 0x40490000)
       × (trimmed 23 8 (tail halfshave 7) 0x40498000 0 0x40490FDB ≡ 0x40490FDB)
+
+-- 001 and 003 groom by place, which shaves both readings of a station with a gap between them, or an infinity; document 02 (b) sets the second
+pub record GroomedByTurns : Type 0 where
+  pub gap-between : trimFrom 23 8 (tail groom 7) 0x7CF00000 0 (0x40490FDB ∷ 0x7CF00000 ∷ 0x40490FDB ∷ []) ≡ 0x40490000 ∷ 0x7CF00000 ∷ 0x4049FFFF ∷ []
+  pub infinity-between : trimFrom 23 8 (tail groom 7) 0x7CF00000 0 (0x40490FDB ∷ 0xFF800000 ∷ 0x40490FDB ∷ []) ≡ 0x40490000 ∷ 0xFF800000 ∷ 0x4049FFFF ∷ []
 
 -- 003, appendix A, at what it leaves out: A2 makes a tiny reading of zero, and A4 an infinity of the largest single and -0 of a NaN
 pub record ListingsBeyond : Type 0 where

@@ -24,11 +24,11 @@ HalfDigit F X n w distance = 2 * distance * 10 ^ (leastExp F X + n) < 10 ^ decad
 pub record DecimalBounds (F X : ℕ) : Type 0 where
   -- 001, sections 2.3 and 3.2: shave, set and groom move a value by less than half a unit of its n-th digit. True of normal readings, for every k with
   -- 10 ^ n ≤ 2 ^ (k - 1), and so for the paper's.
-  pub digits-kept : (c : TailMethod) (n k mark place w : ℕ) → Normal F X w → 2 * 10 ^ n ≤ 2 ^ k → HalfDigit F X n w (moved F X (tail c k) mark place w)
-  pub nsd-kept : (c : TailMethod) (n mark place w : ℕ) → Normal F X w → 1 ≤ n → n ≤ 15 → HalfDigit F X n w (moved F X (tail c (keepBits n)) mark place w)
+  pub digits-kept : (c : TailMethod) (n k mark turn w : ℕ) → Normal F X w → 2 * 10 ^ n ≤ 2 ^ k → HalfDigit F X n w (moved F X (tail c k) mark turn w)
+  pub nsd-kept : (c : TailMethod) (n mark turn w : ℕ) → Normal F X w → 1 ≤ n → n ≤ 15 → HalfDigit F X n w (moved F X (tail c (keepBits n)) mark turn w)
   -- and so does round, with the same bits
-  pub round-kept : (n mark place w : ℕ) → Normal F X w → 1 ≤ n → n ≤ 15 → HalfDigit F X n w (moved F X (round (keepBits n)) mark place w)
+  pub round-kept : (n mark turn w : ℕ) → Normal F X w → 1 ≤ n → n ≤ 15 → HalfDigit F X n w (moved F X (round (keepBits n)) mark turn w)
   -- 001, section 2.3, Decimal Rounding to r decimal places with the scale 2 ^ s, so with the unit 2 ^ -s: within half of the last place where the scale is at
   -- least 10 ^ r, unless it clips
-  pub places-kept : (r s mark place w : ℕ) → s ≤ leastExp F X → 10 ^ r ≤ 2 ^ s → clips F X (absolute (leastExp F X - s)) (magnitude F X w) ≡ false
-      → 2 * moved F X (absolute (leastExp F X - s)) mark place w * 10 ^ r ≤ 2 ^ leastExp F X
+  pub places-kept : (r s mark turn w : ℕ) → s ≤ leastExp F X → 10 ^ r ≤ 2 ^ s → clips F X (absolute (leastExp F X - s)) (magnitude F X w) ≡ false
+      → 2 * moved F X (absolute (leastExp F X - s)) mark turn w * 10 ^ r ≤ 2 ^ leastExp F X

@@ -4,6 +4,7 @@ pub mod Moved
 pub mod Bounds
 pub mod Decimal
 pub mod DigitRounding
+pub mod Grooming
 pub mod Repetition
 pub mod Halfshaving
 pub mod LayerBounds

@@ -21,8 +21,8 @@ addedMasked t u = masked t (u + (u / 2 ^ t % 2 + (2 ^ (t - 1) - 1)))
 
 pub record Listings (F X : ℕ) : Type 0 where
   -- of every pattern
-  pub A1-shaves : (k place w : ℕ) → result F X (tail shave k) place w ≡ masked (F - k) w
+  pub A1-shaves : (k turn w : ℕ) → result F X (tail shave k) turn w ≡ masked (F - k) w
   -- unless the reading is zero, or all bits are kept
-  pub A2-halfshaves : (k place w : ℕ) → k < F → magnitude F X w ≢ 0 → result F X (tail halfshave k) place w ≡ maskedHalf (F - k) w
+  pub A2-halfshaves : (k turn w : ℕ) → k < F → magnitude F X w ≢ 0 → result F X (tail halfshave k) turn w ≡ maskedHalf (F - k) w
   -- unless round clips, or all bits are kept
-  pub A4-rounds : 1 ≤ X → (k place w : ℕ) → k < F → clips F X (round k) (magnitude F X w) ≡ false → result F X (round k) place w ≡ addedMasked (F - k) w
+  pub A4-rounds : 1 ≤ X → (k turn w : ℕ) → k < F → clips F X (round k) (magnitude F X w) ≡ false → result F X (round k) turn w ≡ addedMasked (F - k) w

@@ -4,9 +4,9 @@ use Rattle.meaning.specs.Readings.{size, spacing, magnitude, position, distance
 use Rattle.meaning.specs.Methods.{Method, unit, trimmed}
 
 module _ (F X : ℕ) where
-  -- from the reading w at a place to what the call leaves of it; none for a missing reading, an infinity, a NaN and one that is spared
+  -- from the reading w at a turn to what the call leaves of it; none for a missing reading, an infinity, a NaN and one that is spared
   unfoldable pub moved : Method → ℕ → ℕ → ℕ → ℕ
-  moved x mark place w = distance (position F X w) (position F X (trimmed F X x mark place w))
+  moved x mark turn w = distance (position F X w) (position F X (trimmed F X x mark turn w))
 
   -- at a reading: its size, its spacing, and a method's unit
   abbrev pub sizeOf : ℕ → ℕ
@@ -20,7 +20,7 @@ module _ (F X : ℕ) where
 
   -- a method's unit at what the call leaves of it
   abbrev pub unitLeft : Method → ℕ → ℕ → ℕ → ℕ
-  unitLeft x mark place w = unitOf x (trimmed F X x mark place w)
+  unitLeft x mark turn w = unitOf x (trimmed F X x mark turn w)
 
   -- its exponent field is not 0, so that it has the implicit bit
   abbrev pub Normal : ℕ → Type 0

@@ -3,13 +3,14 @@ use Prim.Native.Nat.{ℕ}
 use Rattle.papers.specs.Bounds.{UnitBounds, LeftBounds, RelativeBounds}
 use Rattle.papers.specs.Decimal.{KeepBits, DecimalBounds}
 use Rattle.papers.specs.DigitRounding.{DigitBounds}
+use Rattle.papers.specs.Grooming.{Grooming}
 use Rattle.papers.specs.Repetition.{Repetition, Rounder}
 use Rattle.papers.specs.Halfshaving.{Halfshaving}
 use Rattle.papers.specs.Listings.{Listings}
 use Rattle.papers.specs.LayerBounds.{LayerBounds}
 use Rattle.papers.specs.Unpacked.{Unpacked, SentUnpacked}
 use Rattle.papers.specs.Unbiased.{Unbiased}
-use Rattle.papers.specs.Cases.{Attained, LeftCases, PiTables, Subnormal, Printed, DecimalBeyond, DigitsAgain, DigitsLeft, HalfshaveSharper, HalfshaveGroomed, ListingsBeyond, LayerTop, DoubleBeyond}
+use Rattle.papers.specs.Cases.{Attained, LeftCases, PiTables, Subnormal, Printed, DecimalBeyond, DigitsAgain, DigitsLeft, HalfshaveSharper, HalfshaveGroomed, GroomedByTurns, ListingsBeyond, LayerTop, DoubleBeyond}
 use Rattle.papers.specs.CasesFar.{FarCases}
 
 pub record Claims (F X : ℕ) : Type 0 where
@@ -18,6 +19,7 @@ pub record Claims (F X : ℕ) : Type 0 where
   pub relative-bounds : RelativeBounds F X
   pub decimal-bounds : DecimalBounds F X
   pub digit-bounds : DigitBounds F X
+  pub grooming : Grooming F X
   pub repetition : Repetition F X
   pub rounder : Rounder F X
   pub halfshaving : Halfshaving F X
@@ -41,6 +43,7 @@ pub record Papers : Type 0 where
   pub digits-left : DigitsLeft
   pub halfshave-sharper : HalfshaveSharper
   pub halfshave-groomed : HalfshaveGroomed
+  pub groomed-by-turns : GroomedByTurns
   pub listings-beyond : ListingsBeyond
   pub layer-top : LayerTop
   pub double-beyond : DoubleBeyond

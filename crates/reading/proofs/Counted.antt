@@ -28,9 +28,9 @@ on-grid t m s = ap (λ (x : ℕ). nearest x (2 ^ t) * 2 ^ t) (sym s) ∙ ap (λ 
 module _ (F X : ℕ) where
   -- ---- a clipped magnitude changes
 
-  round-moves : (k place m : ℕ) → clips F X (round k) m ≡ true → m < infinity F X → newMagnitude F X (round k) place m ≢ m
+  round-moves : (k turn m : ℕ) → clips F X (round k) m ≡ true → m < infinity F X → newMagnitude F X (round k) turn m ≢ m
   unfolding clips
-  round-moves k place m c h e = not-le-of-lt h (rw same at l)
+  round-moves k turn m c h e = not-le-of-lt h (rw same at l)
     where
       t : ℕ
       t = F - k
@@ -40,98 +40,98 @@ module _ (F X : ℕ) where
 
       -- m is on the grid, so it is its own nearest multiple
       same : rounded t m ≡ m
-      same = on-grid t m (sym (round-clipped F X k place m l) ∙ e)
+      same = on-grid t m (sym (round-clipped F X k turn m l) ∙ e)
 
-  absolute-moves : (q place m : ℕ) → clips F X (absolute q) m ≡ true → m < infinity F X → newMagnitude F X (absolute q) place m ≢ m
+  absolute-moves : (q turn m : ℕ) → clips F X (absolute q) m ≡ true → m < infinity F X → newMagnitude F X (absolute q) turn m ≢ m
   unfolding clips multiple
-  absolute-moves q place m c h e = not-le-of-lt l (rw same (size-le F {m = m} {n = largest F X} (omega arith)))
+  absolute-moves q turn m c h e = not-le-of-lt l (rw same (size-le F {m = m} {n = largest F X} (omega arith)))
     where
       l : cap F X < multiple F q m
       l = ltb-true (cap F X) (multiple F q m) c
 
       is : size F m ≡ cap F X / 2 ^ q * 2 ^ q
-      is = ap (λ (x : ℕ). size F x) (sym e) ∙ absolute-exact F X q place m h ∙ absolute-clipped F X q m l
+      is = ap (λ (x : ℕ). size F x) (sym e) ∙ absolute-exact F X q turn m h ∙ absolute-clipped F X q m l
 
       same : multiple F q m ≡ size F m
       same = rw (is, nearest-multiple (cap F X / 2 ^ q) (2 ^ q) (pow-pos q)) refl
 
-  clip-moves : (x : Method) (place m : ℕ) → clips F X x m ≡ true → m < infinity F X → newMagnitude F X x place m ≢ m
+  clip-moves : (x : Method) (turn m : ℕ) → clips F X x m ≡ true → m < infinity F X → newMagnitude F X x turn m ≢ m
   unfolding clips
-  clip-moves (tail c k) place m e h = absurd (true≢false (sym e))
-  clip-moves (round k) place m e h = round-moves k place m e h
-  clip-moves (absolute q) place m e h = absolute-moves q place m e h
-  clip-moves (digits n) place m e h = absurd (true≢false (sym e))
+  clip-moves (tail c k) turn m e h = absurd (true≢false (sym e))
+  clip-moves (round k) turn m e h = round-moves k turn m e h
+  clip-moves (absolute q) turn m e h = absolute-moves q turn m e h
+  clip-moves (digits n) turn m e h = absurd (true≢false (sym e))
 
   -- ---- the four cases of a reading: missing, not finite, spared, and the rest
 
-  module _ (x : Method) (r : Ready x) (mark place w : ℕ) where
+  module _ (x : Method) (r : Ready x) (mark turn w : ℕ) where
     abbrev z : ℕ
-    z = wantedBy F X x place w
+    z = wantedBy F X x turn w
 
     data Case : Type 0 where
       gone : w ≡ mark → Case
       other : w ≢ mark → ¬ (magnitude F X w < infinity F X) → Case
-      spare : w ≢ mark → magnitude F X w < infinity F X → result F X x place w ≡ mark → Case
-      moves : w ≢ mark → magnitude F X w < infinity F X → result F X x place w ≢ mark → Case
+      spare : w ≢ mark → magnitude F X w < infinity F X → result F X x turn w ≡ mark → Case
+      moves : w ≢ mark → magnitude F X w < infinity F X → result F X x turn w ≢ mark → Case
 
     which : Case
-    which = go (ℕ-discrete w mark) (decLt (magnitude F X w) (infinity F X)) (ℕ-discrete (result F X x place w) mark)
+    which = go (ℕ-discrete w mark) (decLt (magnitude F X w) (infinity F X)) (ℕ-discrete (result F X x turn w) mark)
       where
-        go : Dec (w ≡ mark) → Dec (magnitude F X w < infinity F X) → Dec (result F X x place w ≡ mark) → Case
+        go : Dec (w ≡ mark) → Dec (magnitude F X w < infinity F X) → Dec (result F X x turn w ≡ mark) → Case
         go (yes p) f e = gone p
         go (no p) (no f) e = other p f
         go (no p) (yes f) (yes e) = spare p f e
         go (no p) (yes f) (no e) = moves p f e
 
-    not-finite : ¬ (magnitude F X w < infinity F X) → wantedBy F X x place w ≡ w
+    not-finite : ¬ (magnitude F X w < infinity F X) → wantedBy F X x turn w ≡ w
     unfolding wantedBy wanted finite
     not-finite f = rw (le-ltb (magnitude F X w) (infinity F X) (omega arith)) refl
 
-    is-finite : magnitude F X w < infinity F X → wantedBy F X x place w ≡ result F X x place w
+    is-finite : magnitude F X w < infinity F X → wantedBy F X x turn w ≡ result F X x turn w
     unfolding wantedBy wanted finite result
     is-finite f = rw (lt-ltb (magnitude F X w) (infinity F X) f) refl
 
     -- a missing reading, as the definitions see it
-    gone-stays : w ≡ mark → trimmed F X x mark place w ≡ w
+    gone-stays : w ≡ mark → trimmed F X x mark turn w ≡ w
     unfolding trimmed trimmable present missing
     gone-stays p = rw (eq-eqb w mark p) refl
 
-    pub left-is : leftFrom mark w (wantedBy F X x place w) ≡ trimmed F X x mark place w
+    pub left-is : leftFrom mark w (wantedBy F X x turn w) ≡ trimmed F X x mark turn w
     unfolding leftFrom unlessMissing
     left-is = go which
       where
-        go : Case → leftFrom mark w (wantedBy F X x place w) ≡ trimmed F X x mark place w
+        go : Case → leftFrom mark w (wantedBy F X x turn w) ≡ trimmed F X x mark turn w
         go (gone p) = simp (eq-eqb w mark p) (sym (gone-stays p))
-        go (other p f) = simp (ne-eqb w mark p, not-finite f) (sym (trimmed-other F X x mark place w f))
-        go (spare p f e) = simp (ne-eqb w mark p, is-finite f, eq-eqb (result F X x place w) mark e) (sym (trimmed-spared F X x mark place w p f e))
-        go (moves p f e) = simp (ne-eqb w mark p, is-finite f, ne-eqb (result F X x place w) mark e) (sym (trimmed-result F X x mark place w p f e))
+        go (other p f) = simp (ne-eqb w mark p, not-finite f) (sym (trimmed-other F X x mark turn w f))
+        go (spare p f e) = simp (ne-eqb w mark p, is-finite f, eq-eqb (result F X x turn w) mark e) (sym (trimmed-spared F X x mark turn w p f e))
+        go (moves p f e) = simp (ne-eqb w mark p, is-finite f, ne-eqb (result F X x turn w) mark e) (sym (trimmed-result F X x mark turn w p f e))
 
-    pub changed-is : _≡_ {A = ℕ} (cond (eqb (leftFrom mark w (wantedBy F X x place w)) w) 0 1) (cond (changed F X x mark place w) 1 0)
+    pub changed-is : _≡_ {A = ℕ} (cond (eqb (leftFrom mark w (wantedBy F X x turn w)) w) 0 1) (cond (changed F X x mark turn w) 1 0)
     unfolding changed
-    changed-is = rw left-is (flip (eqb (trimmed F X x mark place w) w))
+    changed-is = rw left-is (flip (eqb (trimmed F X x mark turn w) w))
       where
         flip : (b : Bool) → _≡_ {A = ℕ} (cond b 0 1) (cond (not b) 1 0)
         flip true = refl
         flip false = refl
 
-    pub marked-is : cond (eqb (unlessMissing mark w (wantedBy F X x place w)) mark) 1 0 ≡ cond (spared F X x mark place w) 1 0 + cond (missing mark w) 1 0
+    pub marked-is : cond (eqb (unlessMissing mark w (wantedBy F X x turn w)) mark) 1 0 ≡ cond (spared F X x mark turn w) 1 0 + cond (missing mark w) 1 0
     unfolding unlessMissing spared trimmable present missing finite
     marked-is = go which
       where
-        go : Case → cond (eqb (unlessMissing mark w (wantedBy F X x place w)) mark) 1 0 ≡ cond (spared F X x mark place w) 1 0 + cond (missing mark w) 1 0
+        go : Case → cond (eqb (unlessMissing mark w (wantedBy F X x turn w)) mark) 1 0 ≡ cond (spared F X x mark turn w) 1 0 + cond (missing mark w) 1 0
         go (gone p) = simp (eq-eqb w mark p)
         go (other p f) = simp (ne-eqb w mark p, not-finite f, le-ltb (magnitude F X w) (infinity F X) (omega arith))
-        go (spare p f e) = simp (ne-eqb w mark p, is-finite f, lt-ltb (magnitude F X w) (infinity F X) f, eq-eqb (result F X x place w) mark e)
-        go (moves p f e) = simp (ne-eqb w mark p, is-finite f, lt-ltb (magnitude F X w) (infinity F X) f, ne-eqb (result F X x place w) mark e)
+        go (spare p f e) = simp (ne-eqb w mark p, is-finite f, lt-ltb (magnitude F X w) (infinity F X) f, eq-eqb (result F X x turn w) mark e)
+        go (moves p f e) = simp (ne-eqb w mark p, is-finite f, lt-ltb (magnitude F X w) (infinity F X) f, ne-eqb (result F X x turn w) mark e)
 
     -- a clipped result is another pattern
-    clip-changes : clips F X x (magnitude F X w) ≡ true → magnitude F X w < infinity F X → result F X x place w ≢ w
+    clip-changes : clips F X x (magnitude F X w) ≡ true → magnitude F X w < infinity F X → result F X x turn w ≢ w
     unfolding result
     clip-changes c f e =
-        clip-moves x place (magnitude F X w) c f
-        (sym (magnitude-pattern F X (sign F X w) (newMagnitude F X x place (magnitude F X w)) (new-below F X x r place (magnitude F X w) f)) ∙ ap (λ (v : ℕ). magnitude F X v) e)
+        clip-moves x turn (magnitude F X w) c f
+        (sym (magnitude-pattern F X (sign F X w) (newMagnitude F X x turn (magnitude F X w)) (new-below F X x r turn (magnitude F X w) f)) ∙ ap (λ (v : ℕ). magnitude F X v) e)
 
-    pub clipped-is : cond (eqb (leftFrom mark w (wantedBy F X x place w)) w) 0 (over F X x w) ≡ cond (clipped F X x mark place w) 1 0
+    pub clipped-is : cond (eqb (leftFrom mark w (wantedBy F X x turn w)) w) 0 (over F X x w) ≡ cond (clipped F X x mark turn w) 1 0
     unfolding over clipped trimmable present missing finite
     clipped-is = rw left-is (go which)
       where
@@ -139,26 +139,26 @@ module _ (F X : ℕ) where
         either true = refl
         either false = refl
 
-        go : Case → cond (eqb (trimmed F X x mark place w) w) 0 (over F X x w) ≡ cond (clipped F X x mark place w) 1 0
+        go : Case → cond (eqb (trimmed F X x mark turn w) w) 0 (over F X x w) ≡ cond (clipped F X x mark turn w) 1 0
         go (gone p) = simp (gone-stays p, eq-eqb w w refl, eq-eqb w mark p)
-        go (other p f) = simp (trimmed-other F X x mark place w f, eq-eqb w w refl, ne-eqb w mark p, le-ltb (magnitude F X w) (infinity F X) (omega arith))
+        go (other p f) = simp (trimmed-other F X x mark turn w f, eq-eqb w w refl, ne-eqb w mark p, le-ltb (magnitude F X w) (infinity F X) (omega arith))
         go (spare p f e) =
-            simp (trimmed-spared F X x mark place w p f e, eq-eqb w w refl, ne-eqb w mark p, lt-ltb (magnitude F X w) (infinity F X) f, eq-eqb (result F X x place w) mark e)
+            simp (trimmed-spared F X x mark turn w p f e, eq-eqb w w refl, ne-eqb w mark p, lt-ltb (magnitude F X w) (infinity F X) f, eq-eqb (result F X x turn w) mark e)
         go (moves p f e) = by (clips F X x (magnitude F X w)) refl
           where
-            by : (b : Bool) → clips F X x (magnitude F X w) ≡ b → cond (eqb (trimmed F X x mark place w) w) 0 (over F X x w) ≡ cond (clipped F X x mark place w) 1 0
+            by : (b : Bool) → clips F X x (magnitude F X w) ≡ b → cond (eqb (trimmed F X x mark turn w) w) 0 (over F X x w) ≡ cond (clipped F X x mark turn w) 1 0
             by true c =
-                simp (trimmed-result F X x mark place w p f e, ne-eqb (result F X x place w) w (clip-changes c f), ne-eqb w mark p, lt-ltb (magnitude F X w) (infinity F X) f, ne-eqb (result F X x place w) mark e, c)
-            by false c = simp (c, ne-eqb w mark p, lt-ltb (magnitude F X w) (infinity F X) f, ne-eqb (result F X x place w) mark e) (either (eqb (trimmed F X x mark place w) w))
+                simp (trimmed-result F X x mark turn w p f e, ne-eqb (result F X x turn w) w (clip-changes c f), ne-eqb w mark p, lt-ltb (magnitude F X w) (infinity F X) f, ne-eqb (result F X x turn w) mark e, c)
+            by false c = simp (c, ne-eqb w mark p, lt-ltb (magnitude F X w) (infinity F X) f, ne-eqb (result F X x turn w) mark e) (either (eqb (trimmed F X x mark turn w) w))
 
-    pub risen-is : roseFrom F X w (leftFrom mark w (wantedBy F X x place w)) ≡ cond (risen F X x mark place w) 1 0
+    pub risen-is : roseFrom F X w (leftFrom mark w (wantedBy F X x turn w)) ≡ cond (risen F X x mark turn w) 1 0
     unfolding risen
     risen-is =
         rw left-is
-        (stays F X (λ v. roseFrom F X w v ≡ cond (ltb (position F X w) (position F X v)) 1 0) x r mark place w (rose-stays F X w) (λ p f g.
-        rose-is F X w (trimmed F X x mark place w) (g .signed) f (g .below)))
+        (stays F X (λ v. roseFrom F X w v ≡ cond (ltb (position F X w) (position F X v)) 1 0) x r mark turn w (rose-stays F X w) (λ p f g.
+        rose-is F X w (trimmed F X x mark turn w) (g .signed) f (g .below)))
 
     -- all of it
-    pub settled-is : settledBy F X x mark place w ≡ inForce F X x mark place w
+    pub settled-is : settledBy F X x mark turn w ≡ inForce F X x mark turn w
     unfolding settledBy settledFrom inForce missing
     settled-is = rw (changed-is, clipped-is, marked-is, risen-is, left-is) refl

@@ -1,7 +1,7 @@
 -- The methods on machine words: what the functions compute is what the definitions say, for every width.
 use mathlib.Core.Path.{_≡_, refl, sym, ap, ap₂, _∙_, subst}
 use mathlib.Core.Logic.{_≢_}
-use mathlib.Core.Bool.{Bool, true, false, cond}
+use mathlib.Core.Bool.{Bool, true, false, cond, not, _&&_}
 use Prim.Native.Nat.{ℕ, zero, suc, _+_, _-_, _*_, _/_, _%_, _^_, _≤_, _<_}
 use native.Mathlib.Nat.{le-refl, div-add-mod', div-lt-iff-lt-mul, mul-le-mul-right, mul-assoc, add-mul, mul-add-div-right}
 use native.Mathlib.Decide.{decLt, ℕ-discrete}
@@ -9,11 +9,11 @@ use native.Mathlib.Omega.{arith}
 use borrow.Author.Tests.{eq-eqb, ne-eqb, lt-ltb, le-ltb, lt-leb, le-leb}
 use lib.Dec.{ltb, leb, eqb}
 use lib.Pow.{pow-pos}
-use Rattle.meaning.specs.Readings.{sign, magnitude, pattern, infinity, finite}
-use Rattle.meaning.specs.Methods.{Method, digits, halfshaved, round, shaved, rounded, clips, newMagnitude}
+use Rattle.meaning.specs.Readings.{sign, magnitude, pattern, infinity, finite, missing, present}
+use Rattle.meaning.specs.Methods.{Method, digits, halfshaved, round, shaved, rounded, clips, newMagnitude, trimmable}
 use Rattle.meaning.proofs.Powers.{pow-split}
 use Rattle.meaning.proofs.Nearest.{nearest-add}
-use Rattle.reading.specs.Left.{unlessMissing, leftFrom, wanted, wantedBy, over}
+use Rattle.reading.specs.Left.{unlessMissing, leftFrom, wanted, wantedBy, over, takes}
 
 -- a tail of t bits fits above the cut
 pub floor-room : (w t m add : ℕ) → t ≤ w → m < 2 ^ w → add < 2 ^ t → m / 2 ^ t * 2 ^ t + add < 2 ^ w
@@ -113,9 +113,9 @@ module _ (F X : ℕ) where
     keep : F - (F - t) ≡ t
     keep = omega arith
 
-    pub round-new : (place : ℕ) → cond (ltb (rounded t m) (infinity F X)) (rounded t m) (shaved t m) ≡ newMagnitude F X (round (F - t)) place m
+    pub round-new : (turn : ℕ) → cond (ltb (rounded t m) (infinity F X)) (rounded t m) (shaved t m) ≡ newMagnitude F X (round (F - t)) turn m
     unfolding newMagnitude clips
-    round-new place = rw keep (go (decLt (rounded t m) (infinity F X)))
+    round-new turn = rw keep (go (decLt (rounded t m) (infinity F X)))
       where
         go : Dec (rounded t m < infinity F X)
             → cond (ltb (rounded t m) (infinity F X)) (rounded t m) (shaved t m) ≡ cond (leb (infinity F X) (rounded t m)) (shaved t m) (rounded t m)
@@ -172,3 +172,14 @@ module _ (F X : ℕ) where
   pub digits-over : (n w : ℕ) → 0 ≡ over F X (digits n) w
   unfolding over clips
   digits-over n w = refl
+
+-- who takes a turn, by two choices
+pub takes-word : (F X bit mark w y z : ℕ) → y ≡ cond (eqb w mark) 0 bit → z ≡ cond (ltb (magnitude F X w) (infinity F X)) y 0 → z ≡ takes F X bit mark w
+unfolding takes trimmable present missing finite
+takes-word F X bit mark w y z yy zz = zz ∙ ap (λ (a : ℕ). cond (ltb (magnitude F X w) (infinity F X)) a 0) yy ∙ go (eqb w mark) (ltb (magnitude F X w) (infinity F X))
+  where
+    go : (a b : Bool) → cond b (cond a 0 bit) 0 ≡ cond (not a && b) bit 0
+    go true true = refl
+    go true false = refl
+    go false true = refl
+    go false false = refl

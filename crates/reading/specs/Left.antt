@@ -3,7 +3,7 @@ use mathlib.Core.Bool.{cond}
 use Prim.Native.Nat.{ℕ, _+_}
 use lib.Dec.{eqb, ltb}
 use Rattle.meaning.specs.Readings.{sign, magnitude, pattern, finite, missing}
-use Rattle.meaning.specs.Methods.{Method, shaved, newMagnitude, clips, trimmed, changed, spared, clipped, risen}
+use Rattle.meaning.specs.Methods.{Method, shaved, newMagnitude, clips, trimmable, trimmed, changed, spared, clipped, risen}
 
 -- what one reading, or a whole array, counts for: places changed, places where the reading or its result is the mark, places clipped, places missing,
 -- places where the exact value rose
@@ -57,31 +57,35 @@ module _ (F X : ℕ) where
   unfoldable pub wanted : ℕ → ℕ → ℕ
   wanted w n = cond (finite F X w) (pattern F X (sign F X w) n) w
 
-  -- the new pattern by a method at a place, and 1 where it is clipped
+  -- the new pattern by a method at a turn, and 1 where it is clipped
   unfoldable pub wantedBy : Method → ℕ → ℕ → ℕ
-  wantedBy x place w = wanted w (newMagnitude F X x place (magnitude F X w))
+  wantedBy x turn w = wanted w (newMagnitude F X x turn (magnitude F X w))
 
   unfoldable pub over : Method → ℕ → ℕ
   over x w = cond (clips F X x (magnitude F X w)) 1 0
 
-  -- a reading trimmed by a method at a place
+  -- a reading trimmed by a method at a turn
   unfoldable pub settledBy : Method → ℕ → ℕ → ℕ → Settled
-  settledBy x mark place w = settledFrom F X mark w (wantedBy x place w) (over x w)
+  settledBy x mark turn w = settledFrom F X mark w (wantedBy x turn w) (over x w)
 
   -- a reading whose tail of t bits becomes `add`
   unfoldable pub settledTail : ℕ → ℕ → ℕ → ℕ → Settled
   settledTail t add mark w = settledFrom F X mark w (wanted w (tailAdded t add (magnitude F X w))) 0
 
+  -- document 02 (b): `bit` where a reading takes a turn in grooming, and 0 where it doesn't
+  unfoldable pub takes : ℕ → ℕ → ℕ → ℕ
+  takes bit mark w = cond (trimmable F X mark w) bit 0
+
   -- what the documents' definitions say of a reading: the pattern that is left, and what it counts for
   unfoldable pub inForce : Method → ℕ → ℕ → ℕ → Settled
-  inForce x mark place w =
+  inForce x mark turn w =
       record {
-        pattern = trimmed F X x mark place w;
+        pattern = trimmed F X x mark turn w;
         tally = record {
-          changed = cond (changed F X x mark place w) 1 0;
-          marked = cond (spared F X x mark place w) 1 0 + cond (missing mark w) 1 0;
-          clipped = cond (clipped F X x mark place w) 1 0;
+          changed = cond (changed F X x mark turn w) 1 0;
+          marked = cond (spared F X x mark turn w) 1 0 + cond (missing mark w) 1 0;
+          clipped = cond (clipped F X x mark turn w) 1 0;
           missing = cond (missing mark w) 1 0;
-          risen = cond (risen F X x mark place w) 1 0;
+          risen = cond (risen F X x mark turn w) 1 0;
         };
       }

@@ -8,7 +8,7 @@ ghost use Rattle.meaning.specs.Readings.{infinity};
 ghost use Rattle.meaning.specs.Methods.{halfshaved, round, absolute, digits};
 ghost use Rattle.powers.specs.Table.{powers};
 ghost use Rattle.digit_tables.specs.Fields.{Limits, Masks};
-ghost use Rattle.reading.specs.Left.{settledFrom, settledBy, settledTail};
+ghost use Rattle.reading.specs.Left.{settledFrom, settledBy, settledTail, takes};
 ghost use Rattle.reading.specs.Tails.{constants, TailOf, tailWord, roundWord, roundOver};
 ghost use Rattle.single.specs.Left.{settledOf, constantsOf, subnormal};
 
@@ -120,6 +120,15 @@ pub fn tail_single(x: u32, tail: Tail, add: u32, mark: u32) -> Single
     let y = s + unless_zero(m, add);
     let z = below_single(m, y, x);
     settle_single(x, z, 0, mark)
+}
+
+// `bit` where a single takes a turn when an array is groomed; 0 where it is missing or isn't finite.
+pub fn turn_single(x: u32, bit: u32, mark: u32) -> u32
+    ensures { λ r. ⌜ r ≡ takes 23 8 bit mark x ⌝ }
+{
+    let m = x % 0x8000_0000;
+    let y = choose_single(x, mark, 0, bit);
+    below_single(m, y, 0)
 }
 
 // Method 4 with a tail, not none: half a unit less one is added to the whole pattern, and one more where the bit above the tail is one; then the tail is cut off, and

@@ -1,11 +1,11 @@
-// Trimming an array of singles in place: each method's loop, and the loader's one reading. The loops run over parts of an array, so that 32-bit counters serve and LLVM
-// can work on four readings at once. Internal: the calls open to users are those of `trim`.
+// Trimming an array of singles in place: each method's loop but grooming's, and the loader's one reading. The loops run over parts of an array, so that 32-bit counters
+// serve and LLVM can work on four readings at once. Internal: the calls open to users are those of `trim`.
 ghost use mathlib.Core.Path.{_≡_};
 ghost use mathlib.Core.Logic.{_≢_};
 ghost use mathlib.Core.Bool.{true};
-ghost use Prim.Native.Nat.{min, _-_, _<_, _≤_};
+ghost use Prim.Native.Nat.{_-_, _<_, _≤_};
 ghost use lib.ListN.{length};
-ghost use Rattle.meaning.specs.Methods.{round, absolute, digits, placeAfter};
+ghost use Rattle.meaning.specs.Methods.{round, absolute, digits, turnAfter};
 ghost use Rattle.powers.specs.Table.{powers};
 ghost use Rattle.digit_tables.specs.Fields.{Limits, Masks};
 ghost use Rattle.asking.specs.Asked.{methodBy};
@@ -14,7 +14,7 @@ ghost use Rattle.reading.specs.Tails.{TailOf};
 ghost use Rattle.single.specs.Left.{settledOf, constantsOf};
 ghost use Rattle.loops.specs.Tallies.{sumsOf, totalsOf};
 ghost use Rattle.loops.specs.Walk.{stateAt, walkedBy, talliedBy, walked, tallied};
-ghost use Rattle.loops.specs.Methods.{Fitting, addBy, Suits, settledWith, nextWith};
+ghost use Rattle.loops.specs.Methods.{Fitting, addBy, Suits, Filling, settledWith, nextWith};
 ghost use Rattle.singles.specs.Subnormal.{NoSubnormal};
 
 // ---- each method over a part of an array, up to 65,536 singles
@@ -34,36 +34,6 @@ fn tail_singles(readings: &mut [u32], tail: single::Tail, add: u32, mark: u32) -
         i += 1;
     }
     sums
-}
-
-// The sums over a part of an array, and what grooming puts into the tail of the reading after it.
-pub struct Part {
-    pub sums: loops::Sums,
-    pub add: u32,
-}
-
-// Method 2, where the first tail becomes `first`, nothing or all ones, and the next the other. `turn` is 0 at even places and 2^31 at odd ones: it is the same again
-// four readings on, so LLVM can work out what goes into four tails before the loop.
-fn groom_singles(readings: &mut [u32], tail: single::Tail, first: u32, mark: u32) -> Part
-    requires { ⌜ ((TailOf 23 (constantsOf tail)) × (first ≤ tail .ones)) × (length (now readings) ≤ 65536) ⌝ }
-    ensures sums { λ r. ⌜ sumsOf (r .sums) ≡ talliedBy (λ w s. tail .ones - s) (λ s w. settledTail 23 8 (tail .bits) s mark w) first (now (readings .entry)) ⌝ }
-    ensures add { λ r. ⌜ r .add ≡ stateAt (λ w s. tail .ones - s) first (now (readings .entry)) (length (now (readings .entry))) ⌝ }
-    ensures content { λ _. ⌜ now (readings .exit) ≡ walkedBy (λ w s. tail .ones - s) (λ s w. settledTail 23 8 (tail .bits) s mark w) first (now (readings .entry)) ⌝ }
-{
-    let second = tail.ones - first;
-    let mut sums = loops::Sums::new();
-    let mut turn: u32 = 0;
-    let mut i: usize = 0;
-    while i < readings.len() {
-        let add = single::choose_single(turn, 0, first, second);
-        let one = single::tail_single(readings[i], tail, add, mark);
-        readings[i] = one.pattern;
-        sums = sums.plus(one);
-        turn = std::num::wrapping_add_u32(turn, 0x8000_0000);
-        i += 1;
-    }
-    let add = single::choose_single(turn, 0, first, second);
-    Part { sums, add }
 }
 
 // Method 4 with a tail, not none.
@@ -280,56 +250,47 @@ fn plain_singles(readings: &mut [u32], job: Job, mark: u32) -> loops::Sums
     tail_singles(readings, tail, add, mark)
 }
 
-// A part of an array, where grooming puts `add` into the first tail.
-fn part_singles(readings: &mut [u32], job: Job, add: u32, mark: u32) -> Part
-    requires { ⌜ (Suits 23 7 (job .method) (job .n) (constantsOf (job .tail))) × (add ≤ job .tail .ones) × (length (now readings) ≤ 65536) ⌝ }
-    ensures sums { λ r. ⌜ sumsOf (r .sums) ≡ talliedBy (nextWith 23 (job .method) (job .n)) (settledWith 23 8 (job .method) (job .n) mark) add (now (readings .entry)) ⌝ }
-    ensures add { λ r. ⌜ r .add ≡ stateAt (nextWith 23 (job .method) (job .n)) add (now (readings .entry)) (length (now (readings .entry))) ⌝ }
-    ensures content { λ _. ⌜ now (readings .exit) ≡ walkedBy (nextWith 23 (job .method) (job .n)) (settledWith 23 8 (job .method) (job .n) mark) add (now (readings .entry)) ⌝ }
-{
-    if job.method == 2 {
-        let tail = job.tail;
-        return groom_singles(readings, tail, add, mark);
-    }
-    let sums = plain_singles(readings, job, mark);
-    Part { sums, add }
-}
-
-// The most readings of a part: n, or 65,536 where n is more.
-fn at_most_part(n: usize) -> usize
-    ensures { λ r. ⌜ r ≡ min n 65536 ⌝ }
-{
-    if n < 65536 { n } else { 65536 }
-}
-
-// A whole array, part by part: what grooming puts into the next tail goes on from part to part.
+// A whole array by any method but grooming, part by part.
 fn all_singles(readings: &mut [u32], job: Job, mark: u32) -> loops::Totals
-    requires { ⌜ Suits 23 7 (job .method) (job .n) (constantsOf (job .tail)) ⌝ }
-    ensures sums { λ r. ⌜ totalsOf r ≡ talliedBy (nextWith 23 (job .method) (job .n)) (settledWith 23 8 (job .method) (job .n) mark) 0 (now (readings .entry)) ⌝ }
-    ensures content { λ _. ⌜ now (readings .exit) ≡ walkedBy (nextWith 23 (job .method) (job .n)) (settledWith 23 8 (job .method) (job .n) mark) 0 (now (readings .entry)) ⌝ }
+    requires { ⌜ (Suits 23 7 (job .method) (job .n) (constantsOf (job .tail))) × (job .method ≢ 2) ⌝ }
+    ensures sums { λ r. ⌜ totalsOf r ≡ tallied (settledBy 23 8 (methodBy (job .method) (job .n)) mark 0) (now (readings .entry)) ⌝ }
+    ensures content { λ _. ⌜ now (readings .exit) ≡ walked (settledBy 23 8 (methodBy (job .method) (job .n)) mark 0) (now (readings .entry)) ⌝ }
 {
     let mut totals = loops::Totals::new();
-    let mut add: u32 = 0;
     let mut a: usize = 0;
     while a < readings.len() {
-        let e = a + at_most_part(readings.len() - a);
-        let part = part_singles(&mut readings[a..e], job, add, mark);
-        let sums = part.sums;
+        let e = a + loops::at_most(readings.len() - a, 65536);
+        let sums = plain_singles(&mut readings[a..e], job, mark);
         totals = totals.join(sums);
-        add = part.add;
         a = e;
     }
     totals
 }
 
+// An array, or a part of one, where grooming's first turn puts `add` into the tail.
+fn part_singles(readings: &mut [u32], job: Job, add: u32, mark: u32) -> groom_singles::Part
+    requires { ⌜ (Suits 23 7 (job .method) (job .n) (constantsOf (job .tail))) × (Filling (job .tail .ones) add) ⌝ }
+    ensures sums { λ r. ⌜ totalsOf (r .sums) ≡ talliedBy (nextWith 23 8 (job .method) (job .n) mark) (settledWith 23 8 (job .method) (job .n) mark) add (now (readings .entry)) ⌝ }
+    ensures add { λ r. ⌜ r .add ≡ stateAt (nextWith 23 8 (job .method) (job .n) mark) add (now (readings .entry)) (length (now (readings .entry))) ⌝ }
+    ensures content { λ _. ⌜ now (readings .exit) ≡ walkedBy (nextWith 23 8 (job .method) (job .n) mark) (settledWith 23 8 (job .method) (job .n) mark) add (now (readings .entry)) ⌝ }
+{
+    if job.method == 2 {
+        let tail = job.tail;
+        return groom_singles::groom(readings, tail, add, mark);
+    }
+    let sums = all_singles(readings, job, mark);
+    groom_singles::Part { sums, add }
+}
+
 // Singles by a method's number and its natural setting.
 pub fn method_singles(readings: &mut [u32], method: u32, n: u32, mark: u32) -> loops::Totals
     requires { ⌜ Fitting method n 23 7 ⌝ }
-    ensures sums { λ r. ⌜ totalsOf r ≡ talliedBy (placeAfter 23 8 mark) (settledBy 23 8 (methodBy method n) mark) 0 (now (readings .entry)) ⌝ }
-    ensures content { λ _. ⌜ now (readings .exit) ≡ walkedBy (placeAfter 23 8 mark) (settledBy 23 8 (methodBy method n) mark) 0 (now (readings .entry)) ⌝ }
+    ensures sums { λ r. ⌜ totalsOf r ≡ talliedBy (turnAfter 23 8 mark) (settledBy 23 8 (methodBy method n) mark) 0 (now (readings .entry)) ⌝ }
+    ensures content { λ _. ⌜ now (readings .exit) ≡ walkedBy (turnAfter 23 8 mark) (settledBy 23 8 (methodBy method n) mark) 0 (now (readings .entry)) ⌝ }
 {
     let job = job_single(method, n);
-    all_singles(readings, job, mark)
+    let whole = part_singles(readings, job, 0, mark);
+    whole.sums
 }
 
 // ---- the loader's one reading
@@ -365,15 +326,15 @@ fn rounded_single(x: u32, tail: single::Tail, mark: u32) -> single::Single
     single::round_single(x, tail, mark)
 }
 
-// One single by a method's number and its natural setting, at a place.
-pub fn method_single(x: u32, method: u32, n: u32, mark: u32, place: u64) -> single::Single
+// One single by a method's number and its natural setting, at a turn.
+pub fn method_single(x: u32, method: u32, n: u32, mark: u32, turn: u64) -> single::Single
     requires { ⌜ Fitting method n 23 7 ⌝ }
-    ensures { λ r. ⌜ settledOf r ≡ settledBy 23 8 (methodBy method n) mark place x ⌝ }
+    ensures { λ r. ⌜ settledOf r ≡ settledBy 23 8 (methodBy method n) mark turn x ⌝ }
 {
     let job = job_single(method, n);
     if job.method == 2 {
         let tail = job.tail;
-        let add = single::choose_single((place % 2) as u32, 0, 0, tail.ones);
+        let add = single::choose_single((turn % 2) as u32, 0, 0, tail.ones);
         return single::tail_single(x, tail, add, mark);
     }
     plain_single(x, job, mark)

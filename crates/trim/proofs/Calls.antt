@@ -4,7 +4,7 @@ use mathlib.Core.Logic.{_≢_}
 use mathlib.Core.List.{List}
 use Prim.Native.Nat.{ℕ, _≤_}
 use lib.IntN.{ℤ}
-use Rattle.meaning.specs.Methods.{Method, placeAfter, trimFrom, counts}
+use Rattle.meaning.specs.Methods.{Method, turnAfter, trimFrom, counts}
 use Rattle.meaning.specs.Questions.{refused, accepted, trimQuestions}
 use Rattle.meaning.specs.Calls.{answering, leaving, trim}
 use Rattle.meaning.proofs.Accepted.{Ready, accepted-ready}
@@ -54,11 +54,11 @@ module _ (F X method : ℕ) (s : ℤ) (mark : ℕ) (r n : ℕ) (e : r ≡ refusa
   pub ready : Ready (methodBy method n)
   ready = accepted-ready F X method s (methodBy method n) asked
 
-  module _ (ws : List ℕ) (t : Tally) (te : t ≡ talliedBy (placeAfter F X mark) (settledBy F X (methodBy method n) mark) 0 ws) where
+  module _ (ws : List ℕ) (t : Tally) (te : t ≡ talliedBy (turnAfter F X mark) (settledBy F X (methodBy method n) mark) 0 ws) where
     pub fewer-sums : (t .missing ≤ t .marked) × (t .risen ≤ t .changed)
     fewer-sums = fewer F X (methodBy method n) mark ready ws t te
 
-    pub accepted-call : (ys : List ℕ) → ys ≡ walkedBy (placeAfter F X mark) (settledBy F X (methodBy method n) mark) 0 ws
+    pub accepted-call : (ys : List ℕ) → ys ≡ walkedBy (turnAfter F X mark) (settledBy F X (methodBy method n) mark) 0 ws
         → (accepted (countsOf t) ≡ trim F X method s mark ws .answer)
         × (ys ≡ trim F X method s mark ws .readings)
     accepted-call ys ye = (

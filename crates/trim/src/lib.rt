@@ -73,15 +73,15 @@ fn gain(one: single::Single) -> u64
     0x2_0000_0000 * risen + 0x4_0000_0000 * fallen
 }
 
-// Trims one single as the array call would at a place, through numbers alone: the pattern that is left, with 2^33 added where the exact value rose and 2^34 where it
-// fell, or 2^32 plus the refusal's number. Only the place's parity matters.
-pub fn trim_single(x: u32, method: u32, setting: i32, mark: u32, place: u64) -> u64
-    ensures { λ r. ⌜ r ≡ loader method setting mark place x ⌝ }
+// Trims one single as the array call would at a turn, with so many present finite readings before it, through numbers alone: the pattern that is left, with 2^33 added
+// where the exact value rose and 2^34 where it fell, or 2^32 plus the refusal's number. Only the turn's parity matters.
+pub fn trim_single(x: u32, method: u32, setting: i32, mark: u32, turn: u64) -> u64
+    ensures { λ r. ⌜ r ≡ loader method setting mark turn x ⌝ }
 {
     let asked = asking::ask_single(method, setting);
     if asked.refusal != 0 {
         return 4294967296 + loops::wide(asked.refusal);
     }
-    let one = singles::method_single(x, method, asked.number, mark, place);
+    let one = singles::method_single(x, method, asked.number, mark, turn);
     loops::wide(one.pattern) + gain(one)
 }

@@ -12,7 +12,7 @@ trim-single-requires c κs = tt
 returns : tie.Need-returns
 returns c =
     let s = c .before in
-    c .trim-single .ensures ∙ ap (λ (z : ℤ). loader (s .args .method) z (s .args .mark) (s .args .place) (s .args .reading)) (toZ-ofZ (s .fits .setting))
+    c .trim-single .ensures ∙ ap (λ (z : ℤ). loader (s .args .method) z (s .args .mark) (s .args .turn) (s .args .reading)) (toZ-ofZ (s .fits .setting))
 
 pub megharutti-trim-single-spec : {M : Type 1} → statement M
 megharutti-trim-single-spec = tie.close (tie.spec trim-single-requires returns)

@@ -1,8 +1,9 @@
--- The method's walk from the first place on.
+-- The method's walk from the first turn on.
 use borrow.Author.Needs.{needs}
-use mathlib.Core.Path.{ap₂, _∙_}
-use Prim.Native.Nat.{ℕ, zero-le}
-use Rattle.meaning.specs.Methods.{placeAfter}
+use mathlib.Core.Path.{refl, ap₂, _∙_}
+use mathlib.Core.Logic.{inl}
+use Prim.Native.Nat.{ℕ}
+use Rattle.meaning.specs.Methods.{turnAfter}
 use Rattle.asking.specs.Asked.{methodBy}
 use Rattle.reading.specs.Left.{settledBy}
 use Rattle.loops.specs.Walk.{walkedBy, talliedBy}
@@ -15,7 +16,7 @@ method-doubles-spec =
     tie.close
     (tie.spec
     (λ c κs. c .before .pre)
-    (λ c κs. (c .before .job-double .ensures .1 .1, zero-le))
+    (λ c κs. (c .before .job-double .ensures .1 .1, inl refl))
     (λ c. search needs)
     (λ c.
     let s = c .before .before .before .before .before .before .before .args in
@@ -23,7 +24,7 @@ method-doubles-spec =
     let r = c .before .before .before .part-doubles .ensures in
     let ws = s .readings .now in (
       r .0 ∙ whole-tallied 52 11 (j .result .method) (j .result .n) (s .mark) ws
-          ∙ ap₂ (λ (m n : ℕ). talliedBy (placeAfter 52 11 (s .mark)) (settledBy 52 11 (methodBy m n) (s .mark)) 0 ws) (j .ensures .0) (j .ensures .1 .0),
+          ∙ ap₂ (λ (m n : ℕ). talliedBy (turnAfter 52 11 (s .mark)) (settledBy 52 11 (methodBy m n) (s .mark)) 0 ws) (j .ensures .0) (j .ensures .1 .0),
       r .1 .1 ∙ whole-walked 52 11 (j .result .method) (j .result .n) (s .mark) ws
-          ∙ ap₂ (λ (m n : ℕ). walkedBy (placeAfter 52 11 (s .mark)) (settledBy 52 11 (methodBy m n) (s .mark)) 0 ws) (j .ensures .0) (j .ensures .1 .0),
+          ∙ ap₂ (λ (m n : ℕ). walkedBy (turnAfter 52 11 (s .mark)) (settledBy 52 11 (methodBy m n) (s .mark)) 0 ws) (j .ensures .0) (j .ensures .1 .0),
     )))

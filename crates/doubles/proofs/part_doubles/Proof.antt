@@ -20,7 +20,7 @@ part-doubles-spec =
     let two = c .before .before .before .before .before .if1 .taken in
     let l : j .method ≤ 4 = omega arith in
     let tail = suits-keep (s .pre .0) l in
-    let r = c .before .before .groom-doubles .ensures in
+    let r = c .before .before .groom .ensures in
     let ws = s .args .readings .now in (
       r .0 ∙ groom-tallied 52 11 (j .method) (j .n) (s .args .mark) two (constantsOf (j .tail)) tail (s .args .add) ws,
       (

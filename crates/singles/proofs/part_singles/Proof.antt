@@ -12,7 +12,7 @@ pub part-singles-spec : {M : Type 1} → statement M
 part-singles-spec =
     tie.close
     (tie.spec
-    (λ c κs. let p = c .before .before .before .before .before .pre in ((suits-tail (p .0), p .1), p .2))
+    (λ c κs. let p = c .before .before .before .before .before .pre in (suits-tail (p .0), p .1))
     (λ c. search needs)
     (λ c.
     let s = c .before .before .before .before .before .before .before .before in
@@ -20,7 +20,7 @@ part-singles-spec =
     let two = c .before .before .before .before .before .if1 .taken in
     let l : j .method ≤ 4 = omega arith in
     let tail = suits-keep (s .pre .0) l in
-    let r = c .before .before .groom-singles .ensures in
+    let r = c .before .before .groom .ensures in
     let ws = s .args .readings .now in (
       r .0 ∙ groom-tallied 23 8 (j .method) (j .n) (s .args .mark) two (constantsOf (j .tail)) tail (s .args .add) ws,
       (
@@ -28,13 +28,13 @@ part-singles-spec =
         r .1 .1 ∙ groom-walked 23 8 (j .method) (j .n) (s .args .mark) two (constantsOf (j .tail)) tail (s .args .add) ws,
       ),
     ))
-    (λ c κs. let p = c .before .before .before .before .pre in (p .0, c .before .if1 .left, p .2))
+    (λ c κs. let p = c .before .before .before .before .pre in (p .0, c .before .if1 .left))
     (λ c. search needs)
     (λ c.
     let s = c .before .before .before .before .before .before .before in
     let j = s .args .job in
     let other = c .before .before .before .before .if1 .left in
-    let r = c .before .before .plain-singles .ensures in
+    let r = c .before .before .all-singles .ensures in
     let ws = s .args .readings .now in (
       r .0 ∙ other-tallied 23 8 (j .method) (j .n) (s .args .mark) other (s .args .add) ws,
       (

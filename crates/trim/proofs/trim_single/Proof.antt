@@ -25,7 +25,7 @@ returns c =
     let s = c .before .before .before .before in
     let a = c .before .before .before .ask-single in
     ap (λ (k : ℕ). 4294967296 + k) (c .wide .ensures)
-    ∙ refused-loader (s .args .method) (s .args .setting) (s .args .mark) (s .args .place) (s .args .x) (a .result .refusal)
+    ∙ refused-loader (s .args .method) (s .args .setting) (s .args .mark) (s .args .turn) (s .args .x) (a .result .refusal)
     (a .ensures .0 ∙ ap (λ (z : ℤ). refusalOf 23 8 (s .args .method) z) (toZ-ofZ (s .fits .setting))) (c .before .if1 .taken)
 
 method-single-requires : tie.Need-method-single-requires
@@ -43,7 +43,7 @@ gain-requires c κs =
     let a = c .before .before .before .before .ask-single in
     let none = c .before .before .if1 .left in
     let one = c .before .method-single in
-    one-few (s .args .method) (s .args .setting) (s .args .mark) (s .args .place) (s .args .x) (a .result .refusal)
+    one-few (s .args .method) (s .args .setting) (s .args .mark) (s .args .turn) (s .args .x) (a .result .refusal)
     (a .ensures .0 ∙ ap (λ (z : ℤ). refusalOf 23 8 (s .args .method) z) (toZ-ofZ (s .fits .setting))) none (a .result .number)
     (a .ensures .1 ∙ ap (λ (z : ℤ). askedNumber 23 8 (s .args .method) z) (toZ-ofZ (s .fits .setting))) (settledOf (one .result)) (one .ensures)
 
@@ -57,7 +57,7 @@ returns-2 c =
     let none = c .before .before .before .if1 .left in
     let one = c .before .before .method-single in
     ap₂ (λ (p g : ℕ). p + g) (c .before .wide2 .ensures) (c .gain .ensures .0)
-    ∙ accepted-loader (s .args .method) (s .args .setting) (s .args .mark) (s .args .place) (s .args .x) (a .result .refusal)
+    ∙ accepted-loader (s .args .method) (s .args .setting) (s .args .mark) (s .args .turn) (s .args .x) (a .result .refusal)
     (a .ensures .0 ∙ ap (λ (z : ℤ). refusalOf 23 8 (s .args .method) z) (toZ-ofZ (s .fits .setting))) none (a .result .number)
     (a .ensures .1 ∙ ap (λ (z : ℤ). askedNumber 23 8 (s .args .method) z) (toZ-ofZ (s .fits .setting))) (settledOf (one .result)) (one .ensures)
 
