@@ -1,7 +1,8 @@
-/* Megharutti: trims false precision from IEEE 754 singles and doubles, and packs singles into layers of 16-bit codes.
+/* Megharutti: trims false precision from IEEE 754 singles and doubles, compares raw readings with trimmed ones, and packs singles into layers
+ * of 16-bit codes.
  *
- * Every call below is proved to give, for every input, what document 01 of the association defines, with requests (a) and (b) of its document
- * 02. What is proved and what is assumed of the caller stands in docs/PROOFS.md.
+ * Every call below is proved to give, for every input, what document 01 of the association defines, with requests (a), (b) and (c) of its
+ * document 02. What is proved and what is assumed of the caller stands in docs/PROOFS.md.
  *
  * Coming from version 1: the array for the counts has six elements and not four, so enlarge it, or the call writes behind it; and the answer of
  * megharutti_trim_single says more, so take (uint32_t)answer for the pattern, and answer >> 32 == 1 for a refusal.
@@ -32,24 +33,27 @@
  *
  * Refusals. The first question that is answered "no" gives its number, and then no array is written.
  *   1  is the method known?
- *   2  is its setting in range?
+ *   2  is its setting in range? (and, where arrays are compared, p)
  *   3  is `length` 1 to 65536?
  *   4  is the number of readings (or codes) a whole multiple of `length`?
  *   5  has each other array the length that follows?
  *   6  is each reading finite or the mark?
  *   7  is each reference finite, and each exponent -149 to 114?
  *   8  is the double mark a NaN?
+ *  10  are the two arrays to be compared of one length?
  *
  * An array is a pointer to its first element, and how many there are. The caller sees to it that the pointer is not NULL, also where there
- * are none, that it is aligned for its type, that so many elements stand there, and that arrays lie apart from each other. Nobody else may
- * write them during the call, or read those that the call writes. No call keeps a pointer, allocates memory, or has state of its own: calls
- * on different arrays may run at once.
+ * are none, that it is aligned for its type, that so many elements stand there, and that an array which the call writes lies apart from all
+ * others. Nobody else may write any of them during the call, or read those that the call writes. No call keeps a pointer, allocates memory,
+ * or has state of its own: calls on different arrays may run at once.
  *
  * Float settings. Floats are computed with by megharutti_trim_singles and megharutti_trim_doubles where the method is absolute, by
  * megharutti_pack and by megharutti_unpack. For these the caller sees to it that the processor rounds to nearest (fesetround) and traps no
- * float exception (feenableexcept), as a C program begins; they may raise exception flags. All else goes by whole numbers. A program may be
- * linked with gcc's -ffast-math or -Ofast: whether subnormal numbers are taken for zero changes nothing. But compiled so, C's isnan finds no
- * NaN and its isfinite no infinity: tell a missing double by its pattern, which is the mark's, and who takes a turn by the line above.
+ * float exception (feenableexcept), as a C program begins; they may raise exception flags. megharutti_first_beyond_singles and
+ * megharutti_first_beyond_doubles compute with floats too: for these no exception may be trapped, flags may be raised, and how the
+ * processor rounds doesn't matter. All else goes by whole numbers. A program may be linked with gcc's -ffast-math or -Ofast: whether
+ * subnormal numbers are taken for zero changes nothing. But compiled so, C's isnan finds no NaN and its isfinite no infinity: tell a missing
+ * double by its pattern, which is the mark's, and who takes a turn by the line above.
  */
 #ifndef MEGHARUTTI_H
 #define MEGHARUTTI_H
@@ -58,7 +62,7 @@
 #include <stdint.h>
 
 /* The version of this header, of the library and of the program trimlist. */
-#define MEGHARUTTI_VERSION "2.1.0"
+#define MEGHARUTTI_VERSION "2.2.0"
 
 #ifdef __cplusplus
 extern "C" {
@@ -85,7 +89,8 @@ enum megharutti_answer {
     MEGHARUTTI_ARRAY_OF_WRONG_LENGTH = 5,
     MEGHARUTTI_READING_NOT_FINITE = 6,
     MEGHARUTTI_LAYER_NOT_KNOWN = 7,
-    MEGHARUTTI_MARK_NOT_NAN = 8
+    MEGHARUTTI_MARK_NOT_NAN = 8,
+    MEGHARUTTI_LENGTHS_DIFFER = 10
 };
 
 /* The code of a missing reading. */
@@ -102,6 +107,17 @@ uint32_t megharutti_trim_doubles(uint64_t *readings, size_t n, uint32_t method, 
  * stayed, 2 where it rose and 4 where it fell (2^33 or 2^34 was added); or 1 where the call is refused, and then the lower 32 bits are the
  * refusal's number. */
 uint64_t megharutti_trim_single(uint32_t reading, uint32_t method, int32_t setting, uint32_t mark, uint64_t turn);
+
+/* Compares two arrays place by place, say the readings as the sensors sent them with what trimming left, before the former are wiped. Finds
+ * the first place where both are present and finite and lie more than 2^p apart, exactly: 2^p itself is not beyond. A place with a reading
+ * that is missing, infinite or a NaN on either side is read and passed over, so "none" does not say that no reading was lost. Answers 0 and
+ * writes three numbers to `found`: 1, the place (counted from 0) and how many readings of each array were read, which is the place plus 1;
+ * or, where there is none, 0, 0 and the full length. Or answers the refusal's number, 10 (asked first) or 2, and writes nothing. p is -149 to
+ * 127 (doubles: -1074 to 1023). The two may be one array, or overlap. */
+uint32_t megharutti_first_beyond_singles(const uint32_t *raw, size_t n_raw, const uint32_t *trimmed, size_t n_trimmed, uint32_t mark,
+                                         int32_t p, uint64_t found[3]);
+uint32_t megharutti_first_beyond_doubles(const uint64_t *raw, size_t n_raw, const uint64_t *trimmed, size_t n_trimmed, uint64_t mark,
+                                         int32_t p, uint64_t found[3]);
 
 /* Packs n readings into layers of `length`. Answers 0 and writes n codes, and a reference and an exponent for each of the n / length layers;
  * or answers the refusal's number, 3 to 6. The lengths that follow are n for the codes, and n / length for references and exponents. */

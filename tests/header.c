@@ -96,6 +96,51 @@ int main(void) {
     check("a single refused", megharutti_trim_single(pi, 7, 0, mark, 0), 0x100000001);
     check("a negative single refused", megharutti_trim_single(0xC0490FDB, 0, 24, mark, 0), 0x100000002);
 
+    /* before the sensor's readings are wiped: is a trimmed one more than 1/4 off? */
+    const uint32_t sent[7] = {pi, mark, 0x7F800000, 0x80000000, 0x3F800000, 0x3F800000, 0x40490FDB};
+    const uint32_t stored[7] = {0x40490000, pi, 0, 0x3E800000, 0x3FA00000, 0x3FA00001, 0};
+    uint64_t found[4] = {9, 9, 9, 9}; /* the last is none of them */
+    check("singles compared", megharutti_first_beyond_singles(sent, 7, stored, 7, mark, -2, found), 0);
+    check("one is beyond", found[0], 1);
+    check("its place: exactly 1/4 isn't beyond", found[1], 5);
+    check("so many read", found[2], 6);
+    check("behind the numbers found", found[3], 9);
+    check("lengths that differ", megharutti_first_beyond_singles(sent, 7, stored, 6, mark, -2, found), 10);
+    check("lengths that differ, and p beyond its range", megharutti_first_beyond_singles(sent, 6, stored, 7, mark, 128, found), 10);
+    check("p above its range", megharutti_first_beyond_singles(sent, 7, stored, 7, mark, 128, found), 2);
+    check("p below its range", megharutti_first_beyond_singles(sent, 7, stored, 7, mark, -150, found), 2);
+    check("p below its range, and no readings", megharutti_first_beyond_singles(sent, 0, stored, 0, mark, -150, found), 2);
+    check("found, after refusals", found[0], 1);
+    check("place, after refusals", found[1], 5);
+    check("read, after refusals", found[2], 6);
+    check("none among the first five", megharutti_first_beyond_singles(sent, 5, stored, 5, mark, -2, found), 0);
+    check("none", found[0], 0);
+    check("no place", found[1], 0);
+    check("all read", found[2], 5);
+    check("another mark", megharutti_first_beyond_singles(sent, 7, stored, 7, 0x7FC00000, -2, found), 0);
+    check("what was missing is beyond", found[1], 1);
+    check("the readings themselves", megharutti_first_beyond_singles(sent, 7, sent, 7, mark, -149, found), 0);
+    check("are none", found[0] + found[1], 0);
+    check("of seven", found[2], 7);
+    check("no readings compared", megharutti_first_beyond_singles(sent, 0, stored, 0, mark, 127, found), 0);
+    check("none read", found[0] + found[1] + found[2], 0);
+
+    /* 1 and the least double below zero lie more than 1 apart, whatever a subtraction says */
+    const uint64_t long_sent[3] = {0x3FF0000000000000, 0x400921FB54442D18, 0x3FF0000000000000};
+    const uint64_t long_stored[3] = {0x4000000000000000, 0x7FF8000000000000, 0x8000000000000001};
+    check("doubles compared", megharutti_first_beyond_doubles(long_sent, 3, long_stored, 3, 0, 0, found), 0);
+    check("a double is beyond", found[0], 1);
+    check("its place", found[1], 2);
+    check("so many doubles read", found[2], 3);
+    check("behind the numbers found of doubles", found[3], 9);
+    check("doubles within 2^1", megharutti_first_beyond_doubles(long_sent, 3, long_stored, 3, 0, 1, found), 0);
+    check("no double", found[0] + found[1], 0);
+    check("all doubles read", found[2], 3);
+    check("doubles of lengths that differ", megharutti_first_beyond_doubles(long_sent, 2, long_stored, 3, 0, 1024, found), 10);
+    check("p above the doubles' range", megharutti_first_beyond_doubles(long_sent, 3, long_stored, 3, 0, 1024, found), 2);
+    check("p below the doubles' range", megharutti_first_beyond_doubles(long_sent, 3, long_stored, 3, 0, -1075, found), 2);
+    check("doubles read, after refusals", found[2], 3);
+
     /* two layers: 1.0, missing, 2.0; and one value, a zero that is -0 */
     const uint32_t raw[6] = {0x3F800000, mark, 0x40000000, 0x80000000, 0x00000000, mark};
     uint16_t codes[6] = {7, 7, 7, 7, 7, 7};

@@ -2,6 +2,7 @@
 //!
 //! Readings that nothing touched would keep every distance. So each call of a list is compared with the model too, and a library that
 //! idles after the first call is seen. The claims themselves ask only where a reading began, what was left, and which calls were accepted.
+use crate::draw::{Draw, SEED};
 use crate::model::{left, Form};
 use crate::nat::Nat;
 use crate::{apart, hex, megharutti_trim_singles, Lent, Tally};
@@ -380,7 +381,7 @@ fn claims(t: &mut Tally, w: &Width, wrong: Option<Wrong>, list: &List) {
 
 /// Every list of a width, or as many as show the wrong claim.
 pub fn run(t: &mut Tally, w: &Width, wrong: Option<Wrong>) {
-    t.seed = 0x9E3779B97F4A7C15 << w.form.e; // so that a wrong claim meets the lists of which the right one holds
+    t.seed = SEED << w.form.e; // so that a wrong claim meets the lists of which the right one holds
     for _ in 0..w.lists {
         if t.over() { return; }
         let list = if w.form.f == 23 { list::<u32>(t, w) } else { list::<u64>(t, w) };

@@ -41,7 +41,8 @@ impl Form {
     }
     /// The exponent of the spacing, counted from the least spacing.
     pub fn spacing(&self, m: u64) -> u32 { ((m >> self.f) as u32).max(1) - 1 }
-    fn size(&self, m: u64) -> Nat {
+    /// The exact size of a magnitude, in least spacings.
+    pub fn size(&self, m: u64) -> Nat {
         let fraction = m % (1 << self.f);
         Nat::of(if m >> self.f == 0 { fraction } else { (1 << self.f) + fraction }).shl(self.spacing(m))
     }

@@ -51,5 +51,7 @@ impl Nat {
     }
 }
 
+/// The difference of two numbers, whichever is the larger.
+pub fn apart(a: &Nat, b: &Nat) -> Nat { if a.cmp(b).is_ge() { a.minus(b) } else { b.minus(a) } }
 /// The nearer of two neighbours on a grid, by how a reading lies to their middle; a tie goes to the even one.
 pub fn goes_up(to_middle: Ordering, below_is_odd: bool) -> bool { to_middle.is_gt() || to_middle.is_eq() && below_is_odd }

@@ -4,11 +4,13 @@
 //! The model knows nothing of the library. Where the machine's own floats can give the same answer exactly, they are asked too.
 //! Every run makes the same comparisons. It first turns one rule of the model, or one claim, at a time: each such wrong model
 //! must differ from the library. With --self-test it ends there.
+mod draw;
 mod lists;
 mod model;
 mod nat;
+use draw::{Draw, SEED};
 use lists::Width;
-use nat::{goes_up, Nat};
+use nat::{apart, goes_up, Nat};
 use std::cmp::Ordering;
 use std::collections::BTreeMap;
 use std::fmt::UpperHex;
@@ -74,7 +76,7 @@ const TURNED: [(Rule, &str); 30] = [
     (LeastSteps65535, "claim: the least exponent that holds the span in 65,535 steps"),
 ];
 
-/// Counts what was compared and met, and makes the random numbers.
+/// Counts what was compared and met, and holds the seed of the random numbers.
 struct Tally {
     seed: u64,
     most: u32, // the differences after which the run ends
@@ -87,7 +89,7 @@ impl Tally {
     /// For a run that ends after so many differences.
     fn new(most: u32) -> Tally {
         let (compared, met) = (BTreeMap::new(), BTreeMap::new());
-        Tally { seed: 0x9E3779B97F4A7C15, most, differences: 0, first: String::new(), compared, met }
+        Tally { seed: SEED, most, differences: 0, first: String::new(), compared, met }
     }
     fn over(&self) -> bool { self.differences >= self.most }
     fn differs(&mut self, told: String) {
@@ -109,16 +111,10 @@ impl Tally {
     fn meet(&mut self, what: &str, times: u64) {
         if let Some(count) = self.met.get_mut(what) { *count += times } else if times > 0 { self.met.insert(what.to_string(), times); }
     }
-    fn random(&mut self) -> u64 {
-        self.seed ^= self.seed << 13; self.seed ^= self.seed >> 7; self.seed ^= self.seed << 17;
-        self.seed.wrapping_mul(0x2545F4914F6CDD1D).rotate_left(29)
-    }
-    fn below(&mut self, n: u64) -> u64 { self.random() % n }
-    fn from(&mut self, least: i64, most: i64) -> i64 { least + self.below((most - least + 1) as u64) as i64 }
-    fn pick<T: Copy>(&mut self, from: &[T]) -> T { from[self.below(from.len() as u64) as usize] }
     fn sign(&mut self, m: u32) -> u32 { m ^ (self.below(2) as u32 * SIGN) }
     fn junk<T>(&mut self, n: usize, of: fn(u64) -> T) -> Vec<T> { (0..n).map(|_| of(self.random())).collect() }
 }
+impl Draw for Tally { fn seed(&mut self) -> &mut u64 { &mut self.seed } }
 type Class = (&'static str, u32);
 
 /// Some elements in hexadecimal, for telling.
@@ -173,7 +169,6 @@ fn size(reading: u32) -> Nat {
     let (e, m) = (reading % SIGN >> 23, reading % (1 << 23));
     Nat::of(if e == 0 { m } else { (1 << 23) + m } as u64).shl(spacing(reading))
 }
-fn apart(a: &Nat, b: &Nat) -> Nat { if a.cmp(b).is_ge() { a.minus(b) } else { b.minus(a) } }
 /// So many steps of an exponent, in least spacings.
 fn steps(count: u64, exponent: i32) -> Nat { Nat::of(count).shl((exponent - LOW) as u32) }
 /// How a size lies to the middle of the two neighbours on a grid of 2^unit, and the neighbour below, in units.

@@ -22,6 +22,7 @@ static const uint64_t wide_mark = 0x7CF0000000000000, nan_mark = 0x7FF8000000000
 static unsigned begun; /* the settings that this program began with */
 static uint64_t calls, differing, wrong;
 static uint64_t any_risen, any_fallen; /* so many readings moved */
+static uint64_t any_beyond, any_within; /* so many pairs lay beyond a limit, or within it */
 
 static uint64_t draw(void) {
     static uint64_t seed = 0x9E3779B97F4A7C15;
@@ -162,6 +163,103 @@ static void unpack(const char *what, const uint16_t *codes, size_t n, size_t len
     same(what, "codes", (int)n, "length", (int)length, begun, answer[0] == answer[1] && !memcmp(readings[0], readings[1], sizeof readings[0]));
 }
 
+/* ---- the first reading beyond 2^p: arrays of pairs, of one width */
+
+enum { PAIRS = 256, FOUND = 3 };
+struct pairs { size_t n; uint32_t singles[2][PAIRS]; uint64_t doubles[2][PAIRS]; };
+
+static uint32_t first_beyond(int wide, const struct pairs *of, size_t from, int p, uint64_t *found) {
+    size_t n = of->n - from;
+    if (wide)
+        return megharutti_first_beyond_doubles(of->doubles[0] + from, n, of->doubles[1] + from, n, wide_mark, p, found);
+    return megharutti_first_beyond_singles(of->singles[0] + from, n, of->singles[1] + from, n, mark, p, found);
+}
+
+static void put(struct pairs *to, size_t at, const struct pairs *of, size_t from) {
+    for (int k = 0; k < 2; k++) {
+        to->singles[k][at] = of->singles[k][from];
+        to->doubles[k][at] = of->doubles[k][from];
+    }
+}
+
+/* Both answers of a call on the pairs from a place on, and what they wrote. Answers the place after the one found, with the usual settings, or 0. */
+static size_t compare(const char *what, int wide, const struct pairs *of, size_t from, int p, unsigned settings) {
+    uint64_t found[2][FOUND + GUARDS];
+    uint32_t answer[2];
+    for (int i = 0; i < 2 * (FOUND + GUARDS); i++)
+        found[i / (FOUND + GUARDS)][i % (FOUND + GUARDS)] = untold;
+    for (int k = 0; k < 2; k++) {
+        _mm_setcsr(k ? settings : USUAL);
+        answer[k] = first_beyond(wide, of, from, p, found[k]);
+    }
+    _mm_setcsr(USUAL);
+    int is = answer[0] == answer[1] && !memcmp(found[0], found[1], sizeof found[0]) && found[1][FOUND] == untold;
+    same(what, wide ? "doubles from" : "singles from", (int)from, "p", p, settings, is);
+    return !answer[0] && found[0][0] ? from + (size_t)found[0][1] + 1 : 0;
+}
+
+/* From each place found on to the next, so that each pair decides an answer. Then those that are within alone, so that none ends the reading, and with some that are beyond among
+ * them. */
+static void every_pair(const char *what, int wide, const struct pairs *of, int p, unsigned settings) {
+    static struct pairs within, beyond, one;
+    size_t from = 0, next;
+    within.n = beyond.n = 0;
+    do {
+        next = compare(what, wide, of, from, p, settings);
+        for (; from < (next ? next - 1 : of->n); from++)
+            put(&within, within.n++, of, from);
+        if (next)
+            put(&beyond, beyond.n++, of, from++);
+    } while (next);
+    compare(what, wide, &within, 0, p, settings);
+    for (size_t i = 0; i < beyond.n && within.n; i += 7) {
+        size_t at = draw() % within.n;
+        put(&one, 0, &within, at);
+        put(&within, at, &beyond, i);
+        compare(what, wide, &within, 0, p, settings);
+        put(&within, at, &one, 0);
+    }
+    any_beyond += beyond.n;
+    any_within += within.n;
+}
+
+/* The pattern of 2^unit least spacings; 0 where it is none. */
+static uint64_t power(int wide, int unit) {
+    int f = wide ? 52 : 23;
+    return unit < 0 ? 0 : unit < f ? UINT64_C(1) << unit : (uint64_t)(unit - f + 1) << f;
+}
+
+/* A reading next to 2^unit, or so many patterns further at most. */
+static uint64_t beside(int wide, int unit, uint64_t far) {
+    uint64_t m = power(wide, unit), by = draw() % (2 * far + 1);
+    return m + by < far ? 0 : m + by - far;
+}
+
+/* Pairs whose difference is about 2^p, or a subnormal number. Where they lie far apart, or have opposite signs, a subtraction rounds. */
+static void fill_pairs(int wide, struct pairs *to, int p) {
+    int f = wide ? 52 : 23, unit = p + (wide ? 1074 : 149);
+    uint64_t sign = UINT64_C(1) << (wide ? 63 : 31), top = wide ? UINT64_C(0x7FEFFFFFFFFFFFFF) : 0x7F7FFFFF;
+    for (to->n = 0; to->n < PAIRS; to->n++) {
+        uint64_t low = draw() & ((UINT64_C(1) << draw() % (f + 1)) - 1), x[2] = {beside(wide, unit, 2), low};
+        switch (to->n % 8) {
+        case 0: break; /* 2^p and a subnormal number */
+        case 1: x[1] = beside(wide, unit - f - (int)(draw() % 4), 1); break; /* 2^p and half of its spacing */
+        case 2: x[0] = beside(wide, unit - 1, 2), x[1] = beside(wide, unit - 1, 2) ^ sign; break; /* two halves */
+        case 3: x[0] = power(wide, unit + f) + low, x[1] = x[0] + draw() % 3; break; /* neighbours, 2^p apart */
+        case 4: x[0] = draw() & ((UINT64_C(1) << draw() % (f + 1)) - 1); break; /* two subnormal numbers */
+        case 5: x[0] = beside(wide, f, 40), x[1] = draw() % 2 ? beside(wide, f, 40) : x[1]; break; /* about the least normal number */
+        case 6: x[0] = beside(wide, f + (int)(draw() % 6), 40), x[1] = x[0] + draw() % 40; break; /* a little more */
+        default: x[0] = draw() % top, x[1] = draw() % 2 ? x[0] + 1 : draw() % top;
+        }
+        for (int k = 0, swapped = draw() % 2; k < 2; k++) {
+            uint64_t m = x[k ^ swapped] & (sign - 1), pattern = (m > top ? top : m) | (x[k ^ swapped] & sign);
+            pattern ^= draw() % 4 ? 0 : sign;
+            to->singles[k][to->n] = (uint32_t)pattern;
+            to->doubles[k][to->n] = pattern;
+        }
+    }
+}
+
 /* ---- the readings: subnormal numbers of every length and zeros, both of these mixed with the normal numbers next to them, all patterns, and every 2^k and 3 * 2^k least
  * spacings, which are ties */
 
@@ -288,7 +386,70 @@ static void every_direction(void) {
         }
 }
 
+/* The first reading beyond 2^p is computed with floats, and is the same however the processor rounds: with subnormal numbers taken for zero, with each direction, and with both.
+ * No exception may be trapped. */
+static void every_limit(void) {
+    static struct pairs pairs;
+    const unsigned lost = SUBNORMAL_RESULTS_LOST | SUBNORMAL_OPERANDS_LOST;
+    const unsigned settings[9] = {begun, USUAL | SUBNORMAL_RESULTS_LOST, USUAL | SUBNORMAL_OPERANDS_LOST, USUAL | DOWNWARDS, USUAL | UPWARDS, USUAL | TOWARDS_ZERO,
+                                  USUAL | DOWNWARDS | lost, USUAL | UPWARDS | lost, USUAL | TOWARDS_ZERO | lost};
+    for (int i = 0; i < 18; i++) {
+        int wide = i % 2, least = wide ? -1074 : -149, most = wide ? 1023 : 127;
+        for (int p = least - 1; p <= most + 1; p++) {
+            fill_pairs(wide, &pairs, p);
+            every_pair("first beyond", wide, &pairs, p, settings[i / 2]);
+        }
+    }
+}
+
 /* ---- what documents 01 and 02 say, with subnormal numbers taken for zero */
+
+/* The first reading beyond 2^p: raw, trimmed, p, and whether it is beyond. */
+static void limits(void) {
+    const struct { uint64_t raw, trimmed; int p, is; } singles[16] = {
+        {0x00000001, 0x80000001, -149, 1}, {0x00000001, 0x00000002, -149, 0}, {0x00000001, 0x00000003, -149, 1}, {0x00000000, 0x80000001, -149, 0},
+        {0x00800000, 0x007FFFFF, -149, 0}, {0x00800001, 0x007FFFFF, -149, 1}, {0x00800000, 0x80000000, -126, 0}, {0x00800000, 0x80000001, -126, 1},
+        {0x007FFFFF, 0x80000001, -126, 0}, {0x007FFFFF, 0x80000002, -126, 1}, {0x3F800000, 0x80000001, 0, 1}, {0x3F800000, 0x00000001, 0, 0},
+        {0x3F000000, 0xBF000001, 0, 1}, {0x7F7FFFFF, 0xFF7FFFFF, 127, 1}, {0x7F000000, 0x80000001, 127, 1},
+        {0x00C00000, 0x00800000, -128, 1}};
+    const struct { uint64_t raw, trimmed; int p, is; } doubles[9] = {
+        {0x0000000000000001, 0x8000000000000001, -1074, 1}, {0x0010000000000000, 0x000FFFFFFFFFFFFF, -1074, 0}, {0x0010000000000001, 0x000FFFFFFFFFFFFF, -1074, 1},
+        {0x0010000000000000, 0x8000000000000001, -1022, 1}, {0x000FFFFFFFFFFFFF, 0x8000000000000001, -1022, 0}, {0x3FF0000000000000, 0x8000000000000001, 0, 1},
+        {0x3FE0000000000000, 0xBFE0000000000001, 0, 1}, {0x7FE0000000000000, 0x8000000000000001, 1023, 1},
+        {0x0018000000000000, 0x0010000000000000, -1024, 1}};
+    const unsigned settings[6] = {begun, USUAL | SUBNORMAL_RESULTS_LOST, USUAL | SUBNORMAL_OPERANDS_LOST, USUAL | DOWNWARDS, USUAL | UPWARDS, USUAL | TOWARDS_ZERO};
+    uint64_t found[3];
+    for (int k = 0; k < 6; k++) {
+        for (int i = 0; i < 16; i++) {
+            const uint32_t raw[2] = {0, (uint32_t)singles[i].raw}, trimmed[2] = {0, (uint32_t)singles[i].trimmed};
+            _mm_setcsr(settings[k]);
+            check("singles compared", megharutti_first_beyond_singles(raw, 2, trimmed, 2, mark, singles[i].p, found), 0);
+            _mm_setcsr(USUAL);
+            check("a single is beyond", found[0], singles[i].is);
+            check("the single's place", found[1], singles[i].is);
+            check("singles read", found[2], 2);
+        }
+        for (int i = 0; i < 9; i++) {
+            const uint64_t raw[2] = {0, doubles[i].raw}, trimmed[2] = {0, doubles[i].trimmed};
+            _mm_setcsr(settings[k]);
+            check("doubles compared", megharutti_first_beyond_doubles(raw, 2, trimmed, 2, wide_mark, doubles[i].p, found), 0);
+            _mm_setcsr(USUAL);
+            check("a double is beyond", found[0], doubles[i].is);
+            check("the double's place", found[1], doubles[i].is);
+            check("doubles read", found[2], 2);
+        }
+        /* a subnormal mark is no zero, and no other subnormal number; nor is a zero a subnormal mark */
+        const uint32_t raw[3] = {0x00000001, 0x00000002, 0x00000000}, trimmed[3] = {0x80000007, 0x80000002, 0x00000007};
+        _mm_setcsr(settings[k]);
+        check("with a subnormal mark", megharutti_first_beyond_singles(raw, 3, trimmed, 3, 0x00000001, -149, found), 0);
+        check("the mark's place isn't found", found[1], 1);
+        check("with another", megharutti_first_beyond_singles(raw, 3, trimmed, 3, 0x00000002, -147, found), 0);
+        check("a single beside the mark", found[0] + found[1] + found[2], 2);
+        check("with a mark +0", megharutti_first_beyond_singles(raw, 3, trimmed, 3, 0x00000000, -148, found), 0);
+        check("a subnormal number is present", found[0] + found[1] + found[2], 2);
+        _mm_setcsr(USUAL);
+    }
+}
 
 static void cases(void) {
     uint64_t counts[7] = {9, 9, 9, 9, 9, 9, 9}; /* the last is none of them */
@@ -386,10 +547,13 @@ int main(void) {
     setvbuf(stdout, NULL, _IONBF, 0); /* a float exception that is trapped ends this program, and loses no line */
     fill();
     cases();
+    limits();
     every_trim();
     every_packing();
     every_unpacking();
     every_direction();
-    printf("settings: %" PRIu64 " calls, %" PRIu64 " differ; %" PRIu64 " cases wrong; %" PRIu64 " readings rose, %" PRIu64 " fell\n", calls, differing, wrong, any_risen, any_fallen);
-    return differing || wrong || !any_risen || !any_fallen;
+    every_limit();
+    printf("settings: %" PRIu64 " calls, %" PRIu64 " differ; %" PRIu64 " cases wrong; %" PRIu64 " readings rose, %" PRIu64 " fell; %" PRIu64 " pairs beyond, %" PRIu64 " within\n", calls, differing, wrong, any_risen, any_fallen,
+           any_beyond, any_within);
+    return differing || wrong || !any_risen || !any_fallen || !any_beyond || !any_within;
 }

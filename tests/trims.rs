@@ -5,12 +5,14 @@
 //! so that a slip in the model doesn't pass for a slip in the library. Every run makes the same comparisons. It first turns one rule of
 //! the model at a time: each such wrong model must differ from the library, by each call and each method that the rule concerns. With
 //! --self-test it ends there. With --all it takes every single pattern instead, by three methods, and more arrays of groom.
+mod draw;
 mod every;
 mod met;
 mod model;
 mod nat;
 mod turns;
 mod wrong;
+use draw::{Draw, SEED};
 use met::Met;
 use model::{ends, number, tens, ways, Form, Own};
 use std::cmp::Ordering::{self, Greater, Less};
@@ -32,7 +34,7 @@ struct Tally {
 }
 impl Tally {
     fn new(only: Option<(usize, usize)>) -> Tally {
-        Tally { compared: 0, lines: 0, seed: 0x9E3779B97F4A7C15, turn: 0, only, first: (0, String::new()), met: Met::new() }
+        Tally { compared: 0, lines: 0, seed: SEED, turn: 0, only, first: (0, String::new()), met: Met::new() }
     }
     fn same(&mut self, got: u64, want: u64, told: impl FnOnce() -> String) {
         self.compared += 1;
@@ -48,13 +50,8 @@ impl Tally {
     fn over(&self) -> bool { self.only.is_some() && self.lines > 0 }
     fn skips_method(&self, method: u32) -> bool { self.only.is_some_and(|only| only.1 != row(method)) }
     fn skips(&self, call: usize, method: u32) -> bool { self.only.is_some_and(|only| only != (call, row(method))) }
-    fn random(&mut self) -> u64 {
-        self.seed ^= self.seed << 13; self.seed ^= self.seed >> 7; self.seed ^= self.seed << 17;
-        self.seed.wrapping_mul(0x2545F4914F6CDD1D).rotate_left(29)
-    }
-    fn below(&mut self, n: u64) -> u64 { self.random() % n }
-    fn pick(&mut self, from: &[u64]) -> u64 { from[self.below(from.len() as u64) as usize] }
 }
+impl Draw for Tally { fn seed(&mut self) -> &mut u64 { &mut self.seed } }
 
 #[derive(Clone, Copy)]
 struct Job { method: u32, setting: i32, mark: u64 }

@@ -4,6 +4,7 @@
 //! Nothing says in what blocks a library works. So what takes no turn, or may seem to take none, stands at each place of an array, at
 //! pairs of places, and strewn over more than one block of any size. A job's readings are few, and the model's results of each are worked
 //! out once.
+use crate::draw::Draw;
 use crate::model::Form;
 use crate::wrong::Model;
 use crate::{array, loader, Job, Plain, Tally};

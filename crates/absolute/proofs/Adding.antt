@@ -50,7 +50,7 @@ nearest-plus n j g p = go (decLt (2 * (n % g)) g) (decLt g (2 * (n % g)))
 -- ---- one binade
 
 -- 2 ^ F, with F fraction bits, is half of 2 ^ prec and an even number
-double-hidden : (f : Format) → 2 ^ prec f ≡ 2 * 2 ^ (prec f - 1)
+pub double-hidden : (f : Format) → 2 ^ prec f ≡ 2 * 2 ^ (prec f - 1)
 double-hidden binary32 = refl
 double-hidden binary64 = refl
 

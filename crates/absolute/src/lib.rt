@@ -51,8 +51,8 @@ pub fn fine_double(m: u64, q: u64) -> u64
 }
 
 // 2^d.
-fn power(d: u64) -> u64
-    requires { ⌜ d ≤ 53 ⌝ }
+pub fn power(d: u64) -> u64
+    requires { ⌜ d ≤ 63 ⌝ }
     ensures { λ r. ⌜ r ≡ 2 ^ d ⌝ }
 {
     1 << d
@@ -75,11 +75,11 @@ fn nearest_whole(n: u64, g: u64) -> u64
 }
 
 // The exponent of the spacing at a magnitude, with this number of fraction bits.
-fn spacing_exponent(bits: u64, m: u64) -> u64
+pub fn spacing_exponent(bits: u64, m: u64) -> u64
     requires { ⌜ bits ≤ 52 ⌝ }
     ensures { λ r. ⌜ r ≡ spacingExp bits m ⌝ }
 {
-    let field = m / power(bits);
+    let field = m >> bits;
     if field == 0 {
         return 0;
     }

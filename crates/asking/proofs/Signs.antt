@@ -3,8 +3,8 @@
 use Prim.Native.Nat.{ℕ, suc, _+_, _-_, _<_, _≤_, _^_}
 use native.Mathlib.Omega.{arith}
 use mathlib.Core.Path.{_≡_, refl, sym, ap, _∙_, subst}
-use mathlib.Core.Bool.{Bool, true, false, cond, not, _&&_, true≢false}
-use lib.Dec.{T, ltb, leb}
+use mathlib.Core.Bool.{Bool, true, false, cond, not, true≢false}
+use lib.Dec.{T}
 use lib.IntN.{ℤ, pos, negsuc, _+ℤ_, natAbs}
 use lib.Signed.{ltZ, leZ, nonNeg, mag}
 use mir.Syntax.{w32}
@@ -12,6 +12,7 @@ use mir.Val.{Fits, SFits, toZ, ofZ}
 use mir.Facts.{toZ-ofZ}
 use borrow.Author.Tests.{ltb-true, ltb-false, lt-ltb, le-ltb, le-leb, lt-leb}
 use Rattle.meaning.specs.Questions.{above, between}
+use Rattle.meaning.proofs.Accepted.{and-false}
 
 -- a test's fact, of z itself: `setting < 0`, and `setting > 23`, which is 23 < setting
 pub below-said : (z b : ℤ) (t : Bool) → SFits w32 z → ltZ (toZ w32 (ofZ w32 z)) b ≡ t → ltZ z b ≡ t
@@ -43,10 +44,6 @@ le-by-lt (negsuc a) (pos b) true e = absurd (true≢false (sym e))
 le-by-lt (negsuc a) (pos b) false e = refl
 le-by-lt (negsuc a) (negsuc b) true e = lt-leb b a (ltb-true a b e)
 le-by-lt (negsuc a) (negsuc b) false e = le-leb b a (ltb-false a b e)
-
-pub and-false : (a : Bool) → a && false ≡ false
-and-false true = refl
-and-false false = refl
 
 -- a setting z with its bounds l and h, whose natural number is n: too low, too high, in range
 module _ (l z h : ℤ) (n : ℕ) where

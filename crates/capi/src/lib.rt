@@ -4,10 +4,12 @@ ghost use mathlib.Core.Path.{_≡_};
 ghost use mathlib.Core.List.{map};
 ghost use lib.Ieee.{binary32, toBits};
 ghost use Rattle.meaning.specs.Calls.{trimSingles, trimDoubles, loader, unpack};
+ghost use Rattle.meaning.specs.Comparing.{firstBeyondSingles, firstBeyondDoubles};
 ghost use Rattle.trim.specs.Answers.{answerOf};
+ghost use Rattle.beyond.specs.Answers as beyond;
 ghost use Rattle.packing.specs.Answers as packing;
 ghost use Rattle.unpacking.specs.Answers as unpacking;
-ghost use Rattle.capi.specs.ForC.{numberForC, countsForC};
+ghost use Rattle.capi.specs.ForC.{numberForC, countsForC, foundForC};
 
 // An answer in C's form.
 fn hand_over(answer: trim::Answer, counts: &mut [u64; 6]) -> u32
@@ -77,6 +79,57 @@ pub extern "C" fn megharutti_trim_single(
     ensures { λ r. ⌜ r ≡ loader method setting mark turn reading ⌝ }
 {
     trim::trim_single(reading, method, setting, mark, turn)
+}
+
+// A comparison's answer in C's form.
+fn hand_place(answer: beyond::Compared, found: &mut [u64; 3]) -> u32
+    ensures number { λ r. ⌜ r ≡ numberForC (beyond.answerOf answer) ⌝ }
+    ensures found { λ _. ⌜ now (found .exit) ≡ foundForC (beyond.answerOf answer) (now (found .entry)) ⌝ }
+{
+    match answer {
+        beyond::Compared::Beyond { place, read } => {
+            *found = [1, place as u64, read as u64];
+            0
+        }
+        beyond::Compared::None { read } => {
+            *found = [0, 0, read as u64];
+            0
+        }
+        beyond::Compared::Refused(n) => n,
+    }
+}
+
+// Compares raw singles with trimmed ones. `found` gets 1 and the first place where both are present and finite and lie more than 2^p apart, or 0 and 0 where there is
+// none; then the number of readings read.
+#[no_mangle]
+pub extern "C" fn megharutti_first_beyond_singles(
+    raw: &[u32],
+    trimmed: &[u32],
+    mark: u32,
+    p: i32,
+    found: &mut [u64; 3],
+) -> u32
+    ensures answer { λ r. ⌜ r ≡ numberForC (firstBeyondSingles mark p (now (raw .entry)) (now (trimmed .entry))) ⌝ }
+    ensures found { λ _. ⌜ now (found .exit) ≡ foundForC (firstBeyondSingles mark p (now (raw .entry)) (now (trimmed .entry))) (now (found .entry)) ⌝ }
+{
+    let answer = beyond::first_beyond_singles(raw, trimmed, mark, p);
+    hand_place(answer, found)
+}
+
+// Compares raw doubles with trimmed ones.
+#[no_mangle]
+pub extern "C" fn megharutti_first_beyond_doubles(
+    raw: &[u64],
+    trimmed: &[u64],
+    mark: u64,
+    p: i32,
+    found: &mut [u64; 3],
+) -> u32
+    ensures answer { λ r. ⌜ r ≡ numberForC (firstBeyondDoubles mark p (now (raw .entry)) (now (trimmed .entry))) ⌝ }
+    ensures found { λ _. ⌜ now (found .exit) ≡ foundForC (firstBeyondDoubles mark p (now (raw .entry)) (now (trimmed .entry))) (now (found .entry)) ⌝ }
+{
+    let answer = beyond::first_beyond_doubles(raw, trimmed, mark, p);
+    hand_place(answer, found)
 }
 
 fn packed_number(answer: packing::Packed) -> u32

@@ -44,7 +44,7 @@ fn fits_trim(row: &[u8]) -> bool {
     }
 }
 
-// The kinds of `layers.rt` and `texts.rt`, and then the others.
+// The kinds of `layers.rt`, `limits.rt` and `texts.rt`, and then the others.
 fn fits_any(row: &[u8]) -> bool {
     match initial(row, 0) {
         b'r' => fits(
@@ -66,6 +66,14 @@ fn fits_any(row: &[u8]) -> bool {
         b'v' => fits(
             row,
             b"values|source:any|reference:single|exponent:integer|mark:double?|refusal:refusal",
+        ),
+        b'e' => fits(
+            row,
+            b"exceeds|source:any|p:integer|raw:single?*3|trimmed:single?*4|mark:single?|place:quantity?|read:quantity?|refusal:refusal",
+        ),
+        b'o' => fits(
+            row,
+            b"outside|source:any|p:integer|raw:double?*3|trimmed:double?*4|mark:double?|place:quantity?|read:quantity?|refusal:refusal",
         ),
         b'f' => fits(row, b"file|source:any|text:text|what must come:text"),
         _ => fits_trim(row),

@@ -4,6 +4,7 @@
 // document and never from what the program printed. `kinds.rt` has how a row of each kind is written.
 mod kinds;
 mod layers;
+mod limits;
 mod rows;
 mod texts;
 mod trims;

@@ -5,6 +5,8 @@ use crate::layers::asked_pack;
 use crate::layers::asked_unpack;
 use crate::layers::layers;
 use crate::layers::unpacked;
+use crate::limits::exceeds;
+use crate::limits::outside;
 use crate::texts::file;
 use crate::trims::array;
 use crate::trims::asked;
@@ -37,6 +39,8 @@ fn right(row: &[u8]) -> bool {
         b'p' => asked_pack(row),
         b'u' => asked_unpack(row),
         b'v' => asked_layer(row),
+        b'e' => exceeds(row),
+        b'o' => outside(row),
         b'f' => file(row),
         _ => false,
     }

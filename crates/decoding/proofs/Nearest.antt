@@ -24,7 +24,7 @@ use Rattle.decoding.specs.Floats.{finiteFloat}
 use Rattle.decoding.proofs.Numbers.{value-finite}
 
 -- a rounded value with its sign
-round-value : (f : Format) (s : Bool) (a c : ℕ) → grid f a c < overflow f → HasValue (round f s a c) s (grid f a c) (2 ^ low f)
+pub round-value : (f : Format) (s : Bool) (a c : ℕ) → grid f a c < overflow f → HasValue (round f s a c) s (grid f a c) (2 ^ low f)
 round-value f s a c h = rw (round-is f s a c) (units-val f s (kept (prec f) (a * 2 ^ low f) c) (drop (prec f) (a * 2 ^ low f) c) h)
 
 hidden-twice : (f : Format) (c : ℕ) → 2 ^ (prec f + c) ≡ 2 * 2 ^ (prec f - 1) * 2 ^ c

@@ -35,7 +35,7 @@ mul-values f s t a c b d p q (fin u m e) (fin v n g) h k =
     (mul-mul-mul-comm (m * up e) (n * up g) c d ∙ rw (h .1, k .1) (mul-mul-mul-comm a (down e) b (down g))))
 
 -- a / c less b / c, by its sign
-add-minus : (f : Format) (a b c : ℕ) → 0 < c → (x y : Float) → HasValue x false a c → HasValue y true b c
+pub add-minus : (f : Format) (a b c : ℕ) → 0 < c → (x y : Float) → HasValue x false a c → HasValue y true b c
     → add f x y ≡ cond (ltb a b) (round f true (b - a) c) (round f false (a - b) c)
 unfolding add sum
 add-minus f a b c p nan y h k = absurd h

@@ -29,6 +29,11 @@ pub and-second : (a b : Bool) → a && b ≡ true → b ≡ true
 and-second true b e = e
 and-second false b e = absurd (true≢false (sym e))
 
+-- and one that never does
+pub and-false : (a : Bool) → (a && false) ≡ false
+and-false true = refl
+and-false false = refl
+
 positive : (s : ℤ) → leZ (pos 1) s ≡ true → 1 ≤ natAbs s
 positive (pos k) e = leb-true 1 k e
 positive (negsuc k) e = absurd (true≢false (sym e))

@@ -12,6 +12,8 @@ use Rattle.meaning.specs.Questions
 use Rattle.meaning.specs.Questions.{Outcome, refused, accepted, trimQuestions, packQuestions, unpackQuestions}
 use Rattle.meaning.specs.Calls
 use Rattle.meaning.specs.Calls.{Call, AfterPack, AfterUnpack, inTurn, trim, loader, pack, unpack}
+use Rattle.meaning.specs.Comparing
+use Rattle.meaning.specs.Comparing.{Compared, none, at, firstBeyond}
 
 abbrev pub call : ℕ → ℤ → Call
 call n s = record { method = n; setting = s }
@@ -59,6 +61,17 @@ answer F X mark c ws = trim F X (c .method) (c .setting) mark ws .answer
 unfoldable pub loads : Call → ℕ → ℕ → ℕ
 unfolding afterAll
 loads c turn w = loader (c .method) (c .setting) 0x7CF00000 turn w
+
+-- what a comparison answers, of raw and trimmed readings: the first place and the number read, or none and the number read
+unfoldable pub compares : ℕ → ℕ → ℕ → ℤ → List ℕ → List ℕ → Outcome Compared
+unfolding afterAll Comparing.firstFrom Comparing.readUpTo Comparing.beyond Comparing.compared Comparing.compareQuestions Comparing.firstBeyond
+compares F X mark p raw trimmed = firstBeyond F X mark p raw trimmed
+
+abbrev pub found : ℕ → ℕ → Outcome Compared
+found place read = accepted (record { first = at place; read = read })
+
+abbrev pub nothing : ℕ → Outcome Compared
+nothing read = accepted (record { first = none; read = read })
 
 -- an outcome by its number alone: 0 where the call is accepted
 unfoldable pub number : {A : Type 0} → Outcome A → ℕ

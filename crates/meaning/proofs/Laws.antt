@@ -16,6 +16,7 @@ use Rattle.meaning.specs.Methods.{Method, tail, shave, set, groom, round
 use Rattle.meaning.specs.Layers.{lastCode, missingCode, holds, span, summary, layerOf, code}
 use Rattle.meaning.specs.Questions.{accepted, trimQuestions}
 use Rattle.meaning.specs.Calls.{trim}
+use Rattle.meaning.specs.Comparing.{none, at, beyond, compared}
 use Rattle.meaning.proofs.Sizes.{size-mono, size-le}
 use Rattle.meaning.proofs.Patterns.{magnitudeOf-size, magnitudeOf-floor, below-finite, sign-one, pattern-fits, pattern-back}
 use Rattle.meaning.proofs.Nearest.{nearest-floor}
@@ -28,6 +29,7 @@ use Rattle.meaning.proofs.Accepted.{Ready, accepted-ready}
 use Rattle.meaning.proofs.OneReading.{trimmed-missing, trimmed-present, stays}
 use Rattle.meaning.proofs.Moves.{rose-or-fell, rises-plus, rises-minus, answer-sum}
 use Rattle.meaning.proofs.Turns.{idle, even-shaved, odd-set, takers, gaps, by-place}
+use Rattle.meaning.proofs.Comparing.{First, first-both, none-both}
 use Rattle.meaning.proofs.Packing.{Packable, layer-holds, layer-least, layer-codes, singles-held}
 
 pub record Laws (F X : ℕ) : Type 0 where
@@ -70,6 +72,12 @@ pub record Laws (F X : ℕ) : Type 0 where
   pub turn-stays : (mark w turn : ℕ) → trimmable F X mark w ≡ false → turnAfter F X mark w turn ≡ turn
   pub turn-gaps : (mark method : ℕ) (setting : ℤ) (ws : List ℕ) → takers F X mark (trim F X method setting mark ws .readings) ≡ trim F X method setting mark (takers F X mark ws) .readings
   pub turn-place : (mark : ℕ) (ws : List ℕ) → ((k : ℕ) → k < length ws → trimmable F X mark (getD ws k 0) ≡ true) → (i : ℕ) → i ≤ length ws → turnsIn F X mark (take i ws) ≡ i
+  -- Document 02 (c), of two arrays of one length: place i is the first one beyond exactly where it is beyond and no place before it is; and there is none exactly where no
+  -- place is beyond.
+  pub first-place : (mark q : ℕ) (raw trimmed : List ℕ) → length raw ≡ length trimmed
+      → (i : ℕ) → (compared F X mark q raw trimmed .first ≡ at i) ↔ First (beyond F X mark q) raw trimmed i
+  pub no-place : (mark q : ℕ) (raw trimmed : List ℕ) → length raw ≡ length trimmed
+      → (compared F X mark q raw trimmed .first ≡ none) ↔ ((i : ℕ) → i < length raw → beyond F X mark q (getD raw i 0) (getD trimmed i 0) ≡ false)
 
 module _ (F X : ℕ) where
   order-both : (m n : ℕ) → (m < n) ↔ (size F m < size F n)
@@ -116,6 +124,7 @@ module _ (F X : ℕ) where
   left-below x r mark turn w h = stays F X (λ v. finite F X v ≡ true) x r mark turn w h (λ p f g. below-finite F X (trimmed F X x mark turn w) (g .below))
 
   pub laws : Laws F X
+  unfolding compared
   laws =
       record {
         inverse = magnitudeOf-size F X;
@@ -138,6 +147,8 @@ module _ (F X : ℕ) where
         turn-stays = idle F X;
         turn-gaps = gaps F X;
         turn-place = by-place F X;
+        first-place = λ mark q. first-both (beyond F X mark q);
+        no-place = λ mark q. none-both (beyond F X mark q);
       }
 
 -- Layers of singles whose present readings are all finite: the step exponent holds the span and is the least that does; a code is the missing

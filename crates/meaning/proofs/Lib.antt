@@ -1,6 +1,7 @@
 -- Tables of cases, then laws about the definitions, then demand 3.
 pub mod Cases
 pub mod CasesBeyond
+pub mod CasesCompared
 pub mod CasesEdges
 pub mod CasesMoves
 pub mod CasesRefusals
@@ -24,6 +25,7 @@ pub mod Laws
 pub mod Bracket
 pub mod Lists
 pub mod Claim
+pub mod Comparing
 pub mod Exponents
 pub mod Layering
 pub mod Packed

@@ -48,7 +48,7 @@ fn put_reason(at: usize, form: u8) -> usize {
         b'l' => put_text(at, b"not a number from 0 to 999999999"),
         b'm' => put_text(at, b"not a method's name, nor method and a number"),
         b'q' => put_text(at, b"not a number from 0 to 4"),
-        b'r' => put_text(at, b"not a number from 0 to 9"),
+        b'r' => put_text(at, b"not a number from 0 to 19"),
         b's' => put_text(at, b"not 8 digits 0 to 9, A to F in capitals"),
         _ => put_text(at, b"not at most 400 bytes, with an n after each backslash"),
     }

@@ -95,7 +95,7 @@ pub fn has_form(s: &[u8], form: u8) -> bool {
         b'l' => up_to(s, 999999999),
         b'm' => is_method(s),
         b'q' => up_to(s, 4),
-        b'r' => up_to(s, 9),
+        b'r' => up_to(s, 19),
         b's' => so_many(s, 8, 16),
         b't' => is_text(s),
         _ => false,

@@ -3,7 +3,8 @@ use mathlib.Core.Path.{sym}
 use mathlib.Core.Bool.{true, false}
 use lib.IntN.{pos, negsuc}
 use lib.Signed.{leZ}
-use Rattle.asking.proofs.Signs.{below-said, above-said, le-by-lt, and-false}
+use Rattle.meaning.proofs.Accepted.{and-false}
+use Rattle.asking.proofs.Signs.{below-said, above-said, le-by-lt}
 use Rattle.asking_values.proofs.is_step.Statement.{statement}
 use Rattle.asking_values.proofs.is_step.Tie as tie
 
