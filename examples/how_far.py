@@ -1,13 +1,13 @@
 #!/usr/bin/env python3
 """How far a trimmed figure may stand from what the sensor sent.
 
-    how_far.py FIGURE JOB ..               how_far.py 287.5 round,9 round,7
-    how_far.py FIGURE FILE.jobs            the jobs that trim-file kept
-    how_far.py --packed R E CODE JOB ..    a code with its layer's reference R and step exponent E
+    how_far.py FIGURE JOB ..                 how_far.py 287.5 round,9 round,7
+    how_far.py FIGURE FILE.jobs              the jobs that trim-file kept
+    how_far.py --packed W R E CODE JOB ..    a code with its layer's width W, reference R and step exponent E
 
 The figure is the one that is left after the jobs, in full: its pattern, such as 438FC000, or all its decimals. It is a single, and with --double a double. A job is a method and
-its setting; a mark may follow, as in a jobs file. All jobs that the figure went through have to be named, in any order. What is printed rests on what is proved:
-docs/PROMISES.md.
+its setting; a mark may follow, as in a jobs file. All jobs that the figure went through have to be named, in any order. Layers that were packed before version
+2.3 have the width 16. What is printed rests on what is proved: docs/PROMISES.md.
 """
 import re
 import struct
@@ -183,14 +183,16 @@ def number_of(text, low, high, what):
 
 def answer(words):
     if words[0] == "--packed":
-        if len(words) < 5:
-            raise Refused("--packed takes a reference, a step exponent, a code, and the jobs before packing")
-        reference = value_of(SINGLE, pattern_of(SINGLE, words[1]))
-        exponent = number_of(words[2], -149, 114, "a step exponent")
-        code = number_of(words[3], 0, 65535, "a code")
-        if code == 65535:
+        if len(words) < 6:
+            raise Refused("--packed takes a width, a reference, a step exponent, a code, and the jobs before packing")
+        bits = number_of(words[1], 2, 16, "the layer's width, which stands before R,")
+        reference = value_of(SINGLE, pattern_of(SINGLE, words[2]))
+        exponent = number_of(words[3], -149, 128, "a step exponent")
+        missing = 2 ** bits - 1
+        code = number_of(words[4], 0, missing, f"a code of {bits} bits")
+        if code == missing:
             return "missing: this code stands for no reading"
-        meaning, far = packed_distance(jobs_of(SINGLE, words[4:]), reference, exponent, code)
+        meaning, far = packed_distance(jobs_of(SINGLE, words[5:]), reference, exponent, code)
         return f"{decimals(meaning, ROUND_FLOOR)}, {said(meaning, far, False)}"
     width = DOUBLE if words[0] == "--double" else SINGLE
     figure, *jobs = words[width is DOUBLE:] or [""]

@@ -1,13 +1,18 @@
 /* Megharutti: trims false precision from IEEE 754 singles and doubles, compares raw readings with trimmed ones, and packs singles into layers
- * of 16-bit codes.
+ * of codes of 2 to 16 bits.
  *
- * Every call below is proved to give, for every input, what document 01 of the association defines, with requests (a), (b) and (c) of its
+ * Every call below is proved to give, for every input, what document 01 of the association defines, with requests (a), (b), (c) and (e) of its
  * document 02. What is proved and what is assumed of the caller stands in docs/PROOFS.md.
  *
  * Coming from version 1: the array for the counts has six elements and not four, so enlarge it, or the call writes behind it; and the answer of
  * megharutti_trim_single says more, so take (uint32_t)answer for the pattern, and answer >> 32 == 1 for a refusal.
  * Coming from any version before 2.1, where you groom: arrays get other patterns wherever something is missing or not finite, and the last argument
  * of megharutti_trim_single is the turn and no longer the place. No compiler warns of that. The other methods give what they gave.
+ *
+ * Coming from any version before 2.3, where you pack: megharutti_pack and megharutti_unpack take a width for each layer, and megharutti_pack takes
+ * the length before the mark. With the width 16 in every layer they give what they gave; only exponents 115 to 128, which were refused with 7, are
+ * unpacked now. Layers that were packed before have the width 16. A C compiler that reads this header refuses the old calls; Python's ctypes and
+ * declarations of your own don't. MEGHARUTTI_MISSING_CODE takes the width, and 7 has another name: see below.
  *
  * A reading is the bit pattern of a float, in a uint32_t (single) or a uint64_t (double). The mark is the pattern that means missing. It is
  * compared by its bits, and any pattern may be the mark.
@@ -27,9 +32,11 @@
  *     reading != mark && (reading & 0x7F800000) != 0x7F800000
  * before it is trimmed or after, which is the same. examples/loader.c counts turns so.
  *
- * A layer is a run of `length` singles. Packed, it is a reference R (its smallest value, a single), a step exponent E from -149 to 114, and
- * a code for each reading: reading less R, in steps of 2^E, to the nearest. The code 65535 means missing. E is the least exponent with
- * which 65534 steps hold the layer's span, so that a code stands for a value within half a step of its reading.
+ * A layer is a run of `length` singles. Each has a width w, 2 to 16 bits, which the caller gives: wide where figures need many steps, narrow
+ * where few will do. Packed, a layer is a reference R (its smallest value, a single), a step exponent E from -149 to 128, and a code for each
+ * reading: reading less R, in steps of 2^E, to the nearest. Codes run from 0 to 2^w - 2, and 2^w - 1 means missing. E is the least exponent with
+ * which 2^w - 2 steps hold the layer's span, so that a code stands for a value within half a step of its reading. A code fills one uint16_t
+ * whatever its width: its top 16 - w bits are 0, and whoever stores it may drop them. Keep the widths: without them codes can't be read.
  *
  * Refusals. The first question that is answered "no" gives its number, and then no array is written.
  *   1  is the method known?
@@ -38,9 +45,11 @@
  *   4  is the number of readings (or codes) a whole multiple of `length`?
  *   5  has each other array the length that follows?
  *   6  is each reading finite or the mark?
- *   7  is each reference finite, and each exponent -149 to 114?
+ *   7  is each reference finite, and each exponent -149 to 128?
  *   8  is the double mark a NaN?
  *  10  are the two arrays to be compared of one length?
+ *  11  is each width 2 to 16? (asked after 5)
+ *  12  is each code at most the missing code of its layer's width? (asked after 8)
  *
  * An array is a pointer to its first element, and how many there are. The caller sees to it that the pointer is not NULL, also where there
  * are none, that it is aligned for its type, that so many elements stand there, and that an array which the call writes lies apart from all
@@ -62,7 +71,7 @@
 #include <stdint.h>
 
 /* The version of this header, of the library and of the program trimlist. */
-#define MEGHARUTTI_VERSION "2.2.0"
+#define MEGHARUTTI_VERSION "2.3.0"
 
 #ifdef __cplusplus
 extern "C" {
@@ -88,13 +97,15 @@ enum megharutti_answer {
     MEGHARUTTI_NO_WHOLE_LAYERS = 4,
     MEGHARUTTI_ARRAY_OF_WRONG_LENGTH = 5,
     MEGHARUTTI_READING_NOT_FINITE = 6,
-    MEGHARUTTI_LAYER_NOT_KNOWN = 7,
+    MEGHARUTTI_REFERENCE_OR_EXPONENT_OUT_OF_RANGE = 7,
     MEGHARUTTI_MARK_NOT_NAN = 8,
-    MEGHARUTTI_LENGTHS_DIFFER = 10
+    MEGHARUTTI_LENGTHS_DIFFER = 10,
+    MEGHARUTTI_WIDTH_OUT_OF_RANGE = 11,
+    MEGHARUTTI_CODE_OUT_OF_RANGE = 12
 };
 
-/* The code of a missing reading. */
-#define MEGHARUTTI_MISSING_CODE 65535
+/* The code of a missing reading in a layer of that width, 2 to 16: 2^width - 1. */
+#define MEGHARUTTI_MISSING_CODE(width) ((1u << (width)) - 1)
 
 /* Trims n readings in place. Answers 0 and writes six numbers of places to `counts`: changed, spared, clipped, missing, risen and fallen;
  * or answers the refusal's number, and neither the readings nor `counts` are written. A place is risen or fallen where the reading's exact
@@ -119,15 +130,19 @@ uint32_t megharutti_first_beyond_singles(const uint32_t *raw, size_t n_raw, cons
 uint32_t megharutti_first_beyond_doubles(const uint64_t *raw, size_t n_raw, const uint64_t *trimmed, size_t n_trimmed, uint64_t mark,
                                          int32_t p, uint64_t found[3]);
 
-/* Packs n readings into layers of `length`. Answers 0 and writes n codes, and a reference and an exponent for each of the n / length layers;
- * or answers the refusal's number, 3 to 6. The lengths that follow are n for the codes, and n / length for references and exponents. */
-uint32_t megharutti_pack(const uint32_t *readings, size_t n, uint32_t mark, size_t length, uint16_t *codes, size_t n_codes,
-                         float *references, size_t n_references, int32_t *exponents, size_t n_exponents);
+/* Packs n readings into layers of `length`, each by its own width. Answers 0 and writes n codes, and a reference and an exponent for each of the
+ * n / length layers; or answers the refusal's number, 3, 4, 5, 11 or 6, asked in this order. The lengths that follow are n for the codes, and
+ * n / length for widths, references and exponents. */
+uint32_t megharutti_pack(const uint32_t *readings, size_t n, size_t length, uint32_t mark, const uint32_t *widths, size_t n_widths,
+                         uint16_t *codes, size_t n_codes, float *references, size_t n_references, int32_t *exponents, size_t n_exponents);
 
-/* Unpacks n_codes codes into as many doubles: R plus code times 2^E, rounded once, to the nearest double. A missing code becomes the mark,
- * bit for bit, which has to be a NaN. Answers 0, or the refusal's number, 3, 4, 5, 7 or 8. */
-uint32_t megharutti_unpack(const uint16_t *codes, size_t n_codes, const float *references, size_t n_references, const int32_t *exponents,
-                           size_t n_exponents, size_t length, uint64_t mark, uint64_t *readings, size_t n);
+/* Unpacks n_codes codes into as many doubles: R plus code times 2^E, rounded once, to the nearest double. The missing code of a layer's width
+ * becomes the mark, bit for bit, which has to be a NaN. The widths have to be those that the layers were packed with: with others missing readings
+ * may come out as figures, or figures as missing, and 12 need not find it. Answers 0, or the refusal's number, 3, 4, 5, 11, 7, 8 or 12, asked in
+ * this order. */
+uint32_t megharutti_unpack(const uint32_t *widths, size_t n_widths, const uint16_t *codes, size_t n_codes, const float *references,
+                           size_t n_references, const int32_t *exponents, size_t n_exponents, size_t length, uint64_t mark, uint64_t *readings,
+                           size_t n);
 
 #ifdef __cplusplus
 }

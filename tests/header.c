@@ -143,18 +143,23 @@ int main(void) {
 
     /* two layers: 1.0, missing, 2.0; and one value, a zero that is -0 */
     const uint32_t raw[6] = {0x3F800000, mark, 0x40000000, 0x80000000, 0x00000000, mark};
-    uint16_t codes[6] = {7, 7, 7, 7, 7, 7};
+    const uint32_t widths[3] = {16, 16, 0};
+    uint16_t codes[7] = {7, 7, 7, 7, 7, 7, 7}; /* the last is none of them */
     float references[2] = {5, 5};
     int32_t exponents[2] = {5, 5};
-    check("length 0", megharutti_pack(raw, 6, mark, 0, codes, 6, references, 2, exponents, 2), 3);
-    check("no whole layers", megharutti_pack(raw, 6, mark, 4, codes, 6, references, 2, exponents, 2), 4);
-    check("a code too few", megharutti_pack(raw, 6, mark, 3, codes, 5, references, 2, exponents, 2), 5);
-    check("a reference too many", megharutti_pack(raw, 6, mark, 3, codes, 6, references, 3, exponents, 2), 5);
-    check("an infinity", megharutti_pack((const uint32_t[1]){0x7F800000}, 1, mark, 1, codes, 1, references, 1, exponents, 1), 6);
+    check("length 0", megharutti_pack(raw, 6, 0, mark, widths, 2, codes, 6, references, 2, exponents, 2), 3);
+    check("no whole layers", megharutti_pack(raw, 6, 4, mark, widths, 2, codes, 6, references, 2, exponents, 2), 4);
+    check("a code too few", megharutti_pack(raw, 6, 3, mark, widths, 2, codes, 5, references, 2, exponents, 2), 5);
+    check("a reference too many", megharutti_pack(raw, 6, 3, mark, widths, 2, codes, 6, references, 3, exponents, 2), 5);
+    check("a width too few", megharutti_pack(raw, 6, 3, mark, widths, 1, codes, 6, references, 2, exponents, 2), 5);
+    check("a width too many, and out of range", megharutti_pack(raw, 6, 3, mark, widths, 3, codes, 6, references, 2, exponents, 2), 5);
+    check("a width of 0", megharutti_pack(raw, 6, 3, mark, widths + 1, 2, codes, 6, references, 2, exponents, 2), MEGHARUTTI_WIDTH_OUT_OF_RANGE);
+    check("an infinity", megharutti_pack((const uint32_t[1]){0x7F800000}, 1, 1, mark, widths, 1, codes, 1, references, 1, exponents, 1), 6);
     check("codes after refusals", codes[0], 7);
-    check("packed", megharutti_pack(raw, 6, mark, 3, codes, 6, references, 2, exponents, 2), 0);
+    check("packed", megharutti_pack(raw, 6, 3, mark, widths, 2, codes, 6, references, 2, exponents, 2), 0);
     check("code of the reference", codes[0], 0);
     check("missing code", codes[1], 65535);
+    check("missing code by its width", codes[1], MEGHARUTTI_MISSING_CODE(16));
     check("code of 2.0", codes[2], 32768);
     check("code of -0", codes[3], 0);
     check("code of a last missing reading", codes[5], 65535);
@@ -164,16 +169,38 @@ int main(void) {
 
     const uint64_t nan = 0x7FF00000000000AB;
     uint64_t back[6] = {7, 7, 7, 7, 7, 7};
-    check("a mark that is no NaN", megharutti_unpack(codes, 6, references, 2, exponents, 2, 3, 0, back, 6), 8);
-    exponents[1] = 115;
-    check("exponent 115", megharutti_unpack(codes, 6, references, 2, exponents, 2, 3, nan, back, 6), 7);
+    check("a mark that is no NaN", megharutti_unpack(widths, 2, codes, 6, references, 2, exponents, 2, 3, 0, back, 6), 8);
+    exponents[1] = 129;
+    check("exponent 129", megharutti_unpack(widths, 2, codes, 6, references, 2, exponents, 2, 3, nan, back, 6),
+          MEGHARUTTI_REFERENCE_OR_EXPONENT_OUT_OF_RANGE);
+    exponents[1] = 128;
+    check("exponent 128 is a good one, and the mark no NaN", megharutti_unpack(widths, 2, codes, 6, references, 2, exponents, 2, 3, 0, back, 6), 8);
     exponents[1] = -149;
     check("readings after refusals", back[0], 7);
-    check("unpacked", megharutti_unpack(codes, 6, references, 2, exponents, 2, 3, nan, back, 6), 0);
+    check("unpacked", megharutti_unpack(widths, 2, codes, 6, references, 2, exponents, 2, 3, nan, back, 6), 0);
     check("1.0 again", back[0], 0x3FF0000000000000);
     check("the double mark", back[1], nan);
     check("2.0 again", back[2], 0x4000000000000000);
     check("zero again", back[3], 0);
+
+    /* the same readings, the first layer in 2 bits and the second in 4 */
+    const uint32_t narrow[2] = {2, 4};
+    check("packed in few bits", megharutti_pack(raw, 6, 3, mark, narrow, 2, codes, 6, references, 2, exponents, 2), 0);
+    check("code of the reference, of 2 bits", codes[0], 0);
+    check("missing code of 2 bits", codes[1], MEGHARUTTI_MISSING_CODE(2));
+    check("code of 2.0, of 2 bits", codes[2], 2);
+    check("exponent of two steps", (uint64_t)(exponents[0] + 149), 149 - 1);
+    check("missing code of 4 bits", codes[5], 15);
+    check("behind the codes", codes[6], 7);
+    check("unpacked from few bits", megharutti_unpack(narrow, 2, codes, 6, references, 2, exponents, 2, 3, nan, back, 6), 0);
+    check("2.0 from 2 bits", back[2], 0x4000000000000000);
+    check("the double mark from 4 bits", back[5], nan);
+    codes[5] = 16;
+    check("a code of 5 bits in a layer of 4", megharutti_unpack(narrow, 2, codes, 6, references, 2, exponents, 2, 3, nan, back, 6),
+          MEGHARUTTI_CODE_OUT_OF_RANGE);
+    check("the mark is asked first", megharutti_unpack(narrow, 2, codes, 6, references, 2, exponents, 2, 3, 0, back, 6), 8);
+    check("a width of 17, before the mark", megharutti_unpack((const uint32_t[2]){2, 17}, 2, codes, 6, references, 2, exponents, 2, 3, 0, back, 6), 11);
+    check("readings after these refusals", back[2], 0x4000000000000000);
 
     if (!failed)
         puts("header: all calls as expected");

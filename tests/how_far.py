@@ -69,14 +69,17 @@ def rows():
     for kind, row in re.findall(r"(?m)^ *(?:∷ )?(far|none|packed|bit) (.*)$", text):
         kinds[kind] = kinds.get(kind, 0) + 1
         if kind == "packed":
-            calls, reference, exponent, code, u = re.fullmatch(r"\((.*)\) (\d+) \((.*)\) (\d+) (\d+)", row).groups()
+            calls, bits, reference, exponent, code, u = re.fullmatch(r"\((.*)\) (\d+) (\d+) \((.*)\) (\d+) (\d+)", row).groups()
+            kinds["narrow"] = kinds.get("narrow", 0) + (int(bits) < 16)
             jobs, step = accepted(how_far.SINGLE, calls), Fraction(2) ** signed(exponent)
             meaning = value(how_far.SINGLE, reference) + int(code) * step
+            typed = ["--packed", bits, f"0x{int(reference):08X}", str(signed(exponent)), code, *(f"{method},{setting}" for method, setting in jobs)]
             if abs(meaning) > how_far.largest(how_far.SINGLE) + step / 2:
-                same(row, True, refused(how_far.packed_distance, jobs, value(how_far.SINGLE, reference), signed(exponent), int(code)))
+                same(row, True, refused(how_far.answer, typed))
                 continue
             got = how_far.packed_distance(jobs, value(how_far.SINGLE, reference), signed(exponent), int(code))
             same(row, (meaning, Fraction(2) ** (int(u) - 149) + step / 2), got)
+            same(row, how_far.decimals(meaning, how_far.ROUND_FLOOR), how_far.answer(typed).partition(",")[0])
             continue
         width, rest = next((w, row[len(f) + 1:]) for f, w in WIDTHS.items() if row.startswith(f + " "))
         if kind == "none":
@@ -90,9 +93,10 @@ def rows():
         else:
             jobs = accepted(width, calls)
             same(row, (unit / 2, True) if halves(width, jobs, abs(figure), unit) else (unit, False), how_far.distance(width, jobs, figure))
+    print(f"how far: {kinds.get('narrow', 0)} rows 'packed' of the table have a width below 16")
     for kind in ("far", "none", "packed", "bit"):
         print(f"how far: {kinds.get(kind, 0)} rows '{kind}' of the table")
-    return min(kinds.get(kind, 0) for kind in ("far", "none", "packed", "bit"))
+    return min(kinds.get(kind, 0) for kind in ("far", "none", "packed", "narrow", "bit"))
 
 
 class Library:
@@ -110,14 +114,15 @@ class Library:
             assert call(array, len(readings), NAMES.index(method), setting, mark, counts) == 0
         return list(array)
 
-    def layer(self, readings, mark):
-        """A layer packed and unpacked: its reference, exponent, codes and doubles."""
+    def layer(self, readings, mark, bits):
+        """A layer of a width packed and unpacked: its reference, exponent, codes and doubles."""
         n, size, at = len(readings), ctypes.c_size_t, ctypes.c_void_p
+        width = (ctypes.c_uint32 * 1)(bits)
         codes, reference, exponent, doubles = (ctypes.c_uint16 * n)(), (ctypes.c_float * 1)(), (ctypes.c_int32 * 1)(), (ctypes.c_uint64 * n)()
-        self.calls.megharutti_pack.argtypes = [at, size, ctypes.c_uint32, size, at, size, at, size, at, size]
-        assert self.calls.megharutti_pack((ctypes.c_uint32 * n)(*readings), n, mark, n, codes, n, reference, 1, exponent, 1) == 0
-        self.calls.megharutti_unpack.argtypes = [at, size, at, size, at, size, size, ctypes.c_uint64, at, size]
-        assert self.calls.megharutti_unpack(codes, n, reference, 1, exponent, 1, n, 0x7FF8 << 48, doubles, n) == 0
+        self.calls.megharutti_pack.argtypes = [at, size, size, ctypes.c_uint32, at, size, at, size, at, size, at, size]
+        assert self.calls.megharutti_pack((ctypes.c_uint32 * n)(*readings), n, n, mark, width, 1, codes, n, reference, 1, exponent, 1) == 0
+        self.calls.megharutti_unpack.argtypes = [at, size, at, size, at, size, at, size, size, ctypes.c_uint64, at, size]
+        assert self.calls.megharutti_unpack(width, 1, codes, n, reference, 1, exponent, 1, n, 0x7FF8 << 48, doubles, n) == 0
         return struct.unpack("<I", bytes(reference))[0], exponent[0], list(codes), list(doubles)
 
 
@@ -172,14 +177,16 @@ def runs(library, turns):
             else:
                 lies(f"{before:X} by {words} is {after:X}", value(width, before), how_far.answer([*start, f"0x{after:0{digits}X}", *words]))
         if width is how_far.SINGLE and kind != "digits":
-            reference, exponent, codes, doubles = library.layer(left, mark)
-            layer = ["--packed", f"0x{reference:08X}", str(exponent)]
+            bits = random.choice([2, 16, random.randint(2, 16)])
+            reference, exponent, codes, doubles = library.layer(left, mark, bits)
+            layer = ["--packed", str(bits), f"0x{reference:08X}", str(exponent)]
+            same(f"{2 ** bits} in {bits} bits", True, refused(how_far.answer, [*layer, str(2 ** bits), *words]))
             for before, code, double in zip(sent, codes, doubles):
                 line = how_far.answer([*layer, str(code), *words])
                 if before == mark:
-                    same(f"{before:X} by {words}, packed as {code}", "missing", line.partition(":")[0])
+                    same(f"{before:X} by {words}, packed as {code} in {bits} bits", "missing", line.partition(":")[0])
                     continue
-                lies(f"{before:X} by {words}, packed as {code}", value(width, before), line)
+                lies(f"{before:X} by {words}, packed as {code} in {bits} bits", value(width, before), line)
                 far = how_far.packed_distance(jobs, value(how_far.SINGLE, reference), exponent, code)[1]
                 same(f"{before:X} by {words}, unpacked as {double:X}", True, abs(value(width, before) - value(how_far.DOUBLE, double)) < far)
 

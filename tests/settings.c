@@ -131,9 +131,10 @@ static void trim_doubles(const char *what, const uint64_t *in, int method, int s
     same(what, "method", method, "setting", setting, settings, is && answer[0] == answer[1] && !memcmp(left[0], left[1], sizeof left[0]) && !memcmp(counts[0], counts[1], sizeof counts[0]));
 }
 
-/* ---- layers: readings packed in layers of `length`, and codes unpacked with the references and exponents of some layers */
+/* ---- layers: readings packed in layers of `length` and of any widths, and codes unpacked with the widths, references and exponents of some layers */
 
 static void pack(const char *what, const uint32_t *in, size_t n, size_t length) {
+    static uint32_t widths[LONG];
     static uint16_t codes[2][LONG];
     static float references[2][LONG];
     static int32_t exponents[2][LONG];
@@ -141,15 +142,17 @@ static void pack(const char *what, const uint32_t *in, size_t n, size_t length) 
     memset(codes, 0, sizeof codes);
     memset(references, 0, sizeof references);
     memset(exponents, 0, sizeof exponents);
+    for (size_t j = 0; j < n / length; j++)
+        widths[j] = draw() % 4 ? 2 + (uint32_t)(draw() % 15) : 16;
     for (int k = 0; k < 2; k++) {
         _mm_setcsr(k ? begun : USUAL);
-        answer[k] = megharutti_pack(in, n, mark, length, codes[k], n, references[k], n / length, exponents[k], n / length);
+        answer[k] = megharutti_pack(in, n, length, mark, widths, n / length, codes[k], n, references[k], n / length, exponents[k], n / length);
     }
     _mm_setcsr(USUAL);
     same(what, "readings", (int)n, "length", (int)length, begun, !answer[0] && !answer[1] && !memcmp(references[0], references[1], sizeof references[0]) && !memcmp(exponents[0], exponents[1], sizeof exponents[0]) && !memcmp(codes[0], codes[1], sizeof codes[0]));
 }
 
-static void unpack(const char *what, const uint16_t *codes, size_t n, size_t length, const uint32_t *patterns, const int32_t *exponents) {
+static void unpack(const char *what, const uint32_t *widths, const uint16_t *codes, size_t n, size_t length, const uint32_t *patterns, const int32_t *exponents) {
     static uint64_t readings[2][LONG];
     static float references[LONG];
     uint32_t answer[2];
@@ -157,7 +160,7 @@ static void unpack(const char *what, const uint16_t *codes, size_t n, size_t len
     memset(readings, 0, sizeof readings);
     for (int k = 0; k < 2; k++) {
         _mm_setcsr(k ? begun : USUAL);
-        answer[k] = megharutti_unpack(codes, n, references, n / length, exponents, n / length, length, nan_mark, readings[k], n);
+        answer[k] = megharutti_unpack(widths, n / length, codes, n, references, n / length, exponents, n / length, length, nan_mark, readings[k], n);
     }
     _mm_setcsr(USUAL);
     same(what, "codes", (int)n, "length", (int)length, begun, answer[0] == answer[1] && !memcmp(readings[0], readings[1], sizeof readings[0]));
@@ -346,7 +349,7 @@ static void every_packing(void) {
 
 static void every_unpacking(void) {
     static uint16_t codes[LONG];
-    uint32_t patterns[4];
+    uint32_t patterns[4], widths[4];
     int32_t exponents[4];
     const uint32_t ends[4] = {0x007FFFFF, 0x00000001, 0x00800000, 0x00400001};
     for (int k = 0; k < 2000; k++) {
@@ -354,13 +357,18 @@ static void every_unpacking(void) {
         for (size_t i = 0; i < length * layers; i++)
             codes[i] = (uint16_t)(k < 40 ? i : draw());
         for (size_t j = 0; j < layers; j++) {
+            widths[j] = k < 40 || draw() % 4 == 0 ? 16 : 2 + (uint32_t)(draw() % 15);
+            for (size_t i = j * length; i < (j + 1) * length; i++)
+                codes[i] &= MEGHARUTTI_MISSING_CODE(widths[j]);
             uint32_t field = draw() % 3 ? 0 : (uint32_t)(draw() % 255);
             patterns[j] = (uint32_t)(draw() & 1) << 31 | (draw() % 5 ? field << 23 | (uint32_t)(draw() & ((1u << draw() % 24) - 1)) : ends[draw() % 4]);
-            exponents[j] = draw() % 4 ? (int32_t)(draw() % 264) - 149 : -149 + (int32_t)(draw() % 9);
+            exponents[j] = draw() % 4 ? (int32_t)(draw() % 278) - 149 : -149 + (int32_t)(draw() % 9);
         }
         if (k % 50 == 49)
-            exponents[0] = k % 100 == 99 ? -150 : 115;
-        unpack("codes of references of every kind", codes, length * layers, length, patterns, exponents);
+            exponents[0] = k % 100 == 99 ? -150 : 129;
+        if (k % 50 == 48 && widths[0] < 16)
+            codes[length / 2] = (uint16_t)(1u << widths[0]);
+        unpack("codes of references of every kind", widths, codes, length * layers, length, patterns, exponents);
     }
 }
 
@@ -508,14 +516,14 @@ static void cases(void) {
     check("groom 50 of a zero, a shave", wide[4], 0x8000000000000000);
     check("groom 50 of the fourth, a set", wide[5], 0x800FFFFFFFFFFFFF);
 
-    const uint32_t p12[2][2] = {{0x00000000, 0x0000FFFE}, {0x00000000, 0x0000FFFF}};
+    const uint32_t sixteen[1] = {16}, p12[2][2] = {{0x00000000, 0x0000FFFE}, {0x00000000, 0x0000FFFF}};
     const int32_t exponents[2] = {-149, -148};
     const uint16_t last[2] = {65534, 32768};
     for (int k = 0; k < 2; k++) {
         uint16_t codes[2] = {7, 7};
         float reference[1] = {1};
         int32_t exponent[1] = {7};
-        check("P12 packed", megharutti_pack(p12[k], 2, mark, 2, codes, 2, reference, 1, exponent, 1), 0);
+        check("P12 packed", megharutti_pack(p12[k], 2, 2, mark, sixteen, 1, codes, 2, reference, 1, exponent, 1), 0);
         check("P12's exponent", (uint64_t)(exponent[0] + 149), (uint64_t)(exponents[k] + 149));
         check("P12's first code", codes[0], 0);
         check("P12's last code", codes[1], last[k]);
@@ -530,10 +538,28 @@ static void cases(void) {
         float reference[1];
         uint64_t readings[3] = {7, 7, 7};
         memcpy(reference, &patterns[k], 4);
-        check("unpacked", megharutti_unpack(codes, 3, reference, 1, exponent, 1, 3, nan_mark, readings, 3), 0);
+        check("unpacked", megharutti_unpack(sixteen, 1, codes, 3, reference, 1, exponent, 1, 3, nan_mark, readings, 3), 0);
         check("a subnormal reference", readings[0], first[k]);
         check("a subnormal reference and 65534 steps", readings[1], second[k]);
         check("the double mark", readings[2], nan_mark);
+    }
+
+    /* (e): of 4 bits 14 steps hold a span, and of 2 bits 2; 2 and 14 least spacings are just so many, and one more is not */
+    const uint32_t few[4][2] = {{0x80000001, 0x00000001}, {0x80000001, 0x00000002}, {0x00000000, 0x0000000E}, {0x00000000, 0x0000000F}};
+    const uint32_t narrow[4] = {2, 2, 4, 4};
+    const uint16_t tops[4] = {2, 2, 14, 8};
+    for (int k = 0; k < 4; k++) {
+        uint16_t two[2] = {7, 7};
+        float reference[1] = {1};
+        int32_t found[1] = {7};
+        uint64_t readings[2] = {7, 7};
+        check("a narrow layer packed", megharutti_pack(few[k], 2, 2, mark, &narrow[k], 1, two, 2, reference, 1, found, 1), 0);
+        check("its exponent", (uint64_t)(found[0] + 149), k % 2);
+        check("its first code", two[0], 0);
+        check("its last code", two[1], tops[k]);
+        two[0] = (uint16_t)MEGHARUTTI_MISSING_CODE(narrow[k]);
+        check("unpacked again", megharutti_unpack(&narrow[k], 1, two, 2, reference, 1, found, 1, 2, nan_mark, readings, 2), 0);
+        check("its missing code", readings[0], nan_mark);
     }
     _mm_setcsr(USUAL);
 }

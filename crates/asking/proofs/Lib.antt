@@ -1,5 +1,4 @@
--- What tests of a signed setting say; what the questions before a trim give; that the code answers them; the questions on layers.
+-- What tests of a signed setting say; what the questions before a trim give; that the code answers them.
 pub mod Signs
 pub mod Questions
 pub mod Answers
-pub mod Layers

@@ -1,3 +1,2 @@
--- What the questions before a trim, and those before packing and unpacking, give the code.
+-- What the questions before a trim give the code.
 pub mod Asked
-pub mod LayerAsked

@@ -1,13 +1,12 @@
-// The questions that a trim asks before it begins, in both widths: is the method known, is its setting in range? And those on lengths of packing and unpacking.
+// The questions that a trim asks before it begins, in both widths: is the method known, is its setting in range?
 // The answer of a trim holds the setting as a natural number, so that no code after it works with signed numbers.
-// Internal: the calls open to users are those of `trim`, `packing` and `unpacking`.
+// Internal: the calls open to users are those of `trim` and `beyond`.
 ghost use mathlib.Core.Path.{_≡_};
 ghost use mathlib.Core.Bool.{cond};
 ghost use lib.Dec.{leb, eqb};
 ghost use lib.IntN.{pos, negsuc, natAbs};
 ghost use Rattle.meaning.specs.Questions.{above, between, settingInRange};
 ghost use Rattle.asking.specs.Asked.{refusalOf, numberOf, askedNumber};
-ghost use Rattle.asking.specs.LayerAsked.{layerRefusal};
 
 // The refusal's number, or 0; and where it is 0, the setting as a natural number: for method 5 the setting plus 149 (1074 for doubles), else the setting itself.
 // After a refusal the number is 0.
@@ -121,30 +120,4 @@ pub fn ask_double(method: u32, setting: i32) -> Asked
     ensures number { λ r. ⌜ r .number ≡ askedNumber 52 11 method setting ⌝ }
 {
     answer(method, number_double(method, setting))
-}
-
-// The questions on lengths before layers of `length` readings are packed or unpacked: `n` readings (or codes), and the lengths of the other arrays.
-// The refusal's number, or 0.
-pub fn ask_layers(length: usize, n: usize, same: usize, references: usize, exponents: usize) -> u32
-    ensures { λ r. ⌜ r ≡ layerRefusal length n same references exponents ⌝ }
-{
-    if length < 1 {
-        return 3;
-    }
-    if 65536 < length {
-        return 3;
-    }
-    if n % length != 0 {
-        return 4;
-    }
-    if same != n {
-        return 5;
-    }
-    if references != n / length {
-        return 5;
-    }
-    if exponents != n / length {
-        return 5;
-    }
-    0
 }

@@ -11,7 +11,7 @@ use lib.Dec.{eqb, ltb}
 use lib.ListN.{length, getD, drop, drop-of-length-le}
 use lib.Seq.{drop-cons}
 use Rattle.meaning.specs.Readings.{magnitude, infinity, finite, missing}
-use Rattle.meaning.specs.Questions.{all}
+use Rattle.meaning.specs.Questions.{all, packable}
 use Rattle.asking_readings.specs.Largest.{largestPresent}
 
 -- both of two numbers are below a third where the larger is
@@ -31,7 +31,7 @@ or-false : (a : Bool) → a || false ≡ a
 or-false true = refl
 or-false false = refl
 
-one : (mark w : ℕ) → ltb (cond (eqb w mark) 0 (w % 2147483648)) 2139095040 ≡ (finite 23 8 w || missing mark w)
+one : (mark w : ℕ) → ltb (cond (eqb w mark) 0 (w % 2147483648)) 2139095040 ≡ packable mark w
 unfolding finite missing magnitude infinity
 one mark w = go (ℕ-discrete w mark)
   where
@@ -39,12 +39,12 @@ one mark w = go (ℕ-discrete w mark)
     go (yes e) = rw (eq-eqb w mark e, or-true (ltb (w % 2147483648) 2139095040)) refl
     go (no e) = rw (ne-eqb w mark e, or-false (ltb (w % 2147483648) 2139095040)) refl
 
-pub all-finite : (mark : ℕ) (ws : List ℕ) → ltb (largestPresent mark ws) 2139095040 ≡ all (λ w. finite 23 8 w || missing mark w) ws
+pub all-finite : (mark : ℕ) (ws : List ℕ) → ltb (largestPresent mark ws) 2139095040 ≡ all (packable mark) ws
 unfolding largestPresent all
 all-finite mark [] = refl
 all-finite mark (w ∷ ws) =
     max-below (cond (eqb w mark) 0 (w % 2147483648)) (largestPresent mark ws) 2139095040
-    ∙ ap (λ (b : Bool). b && ltb (largestPresent mark ws) 2139095040) (one mark w) ∙ ap (λ (b : Bool). (finite 23 8 w || missing mark w) && b) (all-finite mark ws)
+    ∙ ap (λ (b : Bool). b && ltb (largestPresent mark ws) 2139095040) (one mark w) ∙ ap (λ (b : Bool). packable mark w && b) (all-finite mark ws)
 
 -- ---- the loop: what the rest of the readings adds
 

@@ -1,8 +1,6 @@
 // Question 6 of packing: is each reading finite or the mark? Internal: the call open to users is packing's.
 ghost use mathlib.Core.Path.{_≡_};
-ghost use mathlib.Core.Bool.{_||_};
-ghost use Rattle.meaning.specs.Readings.{finite, missing};
-ghost use Rattle.meaning.specs.Questions.{all};
+ghost use Rattle.meaning.specs.Questions.{all, packable};
 ghost use Rattle.asking_readings.specs.Largest.{largestPresent};
 
 // The largest magnitude of the present readings, 0 where none is present.
@@ -22,7 +20,7 @@ fn largest_magnitude(readings: &[u32], mark: u32) -> u32
 
 // Question 6: is each reading finite or the mark?
 pub fn each_packable(readings: &[u32], mark: u32) -> bool
-    ensures { λ r. ⌜ r ≡ all (λ w. finite 23 8 w || missing mark w) (now (readings .entry)) ⌝ }
+    ensures { λ r. ⌜ r ≡ all (packable mark) (now (readings .entry)) ⌝ }
 {
     largest_magnitude(readings, mark) < 0x7f80_0000
 }

@@ -2,9 +2,9 @@
 use mathlib.Core.Path.{_≡_, refl, sym, _∙_, subst}
 use mathlib.Core.Bool.{Bool, true, false, cond, not, Bool·beq, _&&_}
 use Prim.Native.Nat.{ℕ, _+_, _-_, _*_, _^_, _<_}
-use native.Mathlib.Nat.{mul-pos, zero-mul, mul-one, eq-of-mul-eq-mul-right}
+use native.Mathlib.Nat.{mul-pos, zero-mul}
 use native.Mathlib.Omega.{arith}
-use borrow.Author.Tests.{eq-eqb, le-ltb}
+use borrow.Author.Tests.{le-ltb}
 use lib.Dec.{ltb}
 use lib.IntN.{pos}
 use lib.Pow.{pow-pos}
@@ -12,6 +12,7 @@ use lib.Ieee.{Float, nan, inf, fin, binary32, up, down, round, sum, sub, eq}
 use lib.Ieee.Exact.{HasValue, round-exact}
 use lib.Ieee.Fits.{down-pos}
 use Rattle.decoding.specs.Floats.{finiteFloat}
+use Rattle.decoding.proofs.Equal.{values-equal}
 
 zero-sum : (s : Bool) (a c : ℕ) → 0 < c → HasValue (sum binary32 s a (not s) a c) false 0 c
 unfolding sum
@@ -32,13 +33,7 @@ zero-sum s a c h =
     is false = same false
 
 eq-zero : (x : Float) (c : ℕ) → 0 < c → HasValue x false 0 c → eq x (fin false 0 (pos 0)) ≡ true
-unfolding eq
-eq-zero nan c p h = absurd h
-eq-zero (inf s) c p h = absurd h
-eq-zero (fin s m e) c p h =
-    let y : m * up e ≡ 0 = eq-of-mul-eq-mul-right c p (m * up e) 0 (h .1 ∙ zero-mul (down e) ∙ sym (zero-mul c)) in
-    let z : m * up e * 1 ≡ 0 * 1 * down e = mul-one (m * up e) ∙ y ∙ sym (zero-mul (down e)) in
-    rw (h .0, eq-eqb (m * up e * 1) (0 * 1 * down e) z) refl
+eq-zero x c p h = values-equal x (fin false 0 (pos 0)) 0 0 c p h (refl, rw (zero-mul, zero-mul) refl)
 
 pub difference : (x : Float) → eq (sub binary32 x x) (fin false 0 (pos 0)) ≡ finiteFloat x
 unfolding sub eq

@@ -1,3 +1,2 @@
--- Tests of floats and of whole slices.
+-- A test of floats.
 pub mod Finite
-pub mod Every

@@ -141,22 +141,23 @@ fn packed_number(answer: packing::Packed) -> u32
     }
 }
 
-// Packs an array of singles, layer by layer.
+// Packs an array of singles, layer by layer, each by its own width.
 #[no_mangle]
 pub extern "C" fn megharutti_pack(
     readings: &[u32],
-    mark: u32,
     length: usize,
+    mark: u32,
+    widths: &[u32],
     codes: &mut [u16],
     references: &mut [f32],
     exponents: &mut [i32],
 ) -> u32
-    ensures answer { λ r. ⌜ r ≡ numberForC (packing.packed mark length (now (readings .entry)) (now (codes .entry)) (now (references .entry)) (now (exponents .entry)) .answer) ⌝ }
-    ensures codes { λ _. ⌜ now (codes .exit) ≡ packing.packed mark length (now (readings .entry)) (now (codes .entry)) (now (references .entry)) (now (exponents .entry)) .codes ⌝ }
-    ensures references { λ _. ⌜ map (toBits binary32) (now (references .exit)) ≡ packing.packed mark length (now (readings .entry)) (now (codes .entry)) (now (references .entry)) (now (exponents .entry)) .references ⌝ }
-    ensures exponents { λ _. ⌜ now (exponents .exit) ≡ packing.packed mark length (now (readings .entry)) (now (codes .entry)) (now (references .entry)) (now (exponents .entry)) .exponents ⌝ }
+    ensures answer { λ r. ⌜ r ≡ numberForC (packing.packed mark length (now (widths .entry)) (now (readings .entry)) (now (codes .entry)) (now (references .entry)) (now (exponents .entry)) .answer) ⌝ }
+    ensures codes { λ _. ⌜ now (codes .exit) ≡ packing.packed mark length (now (widths .entry)) (now (readings .entry)) (now (codes .entry)) (now (references .entry)) (now (exponents .entry)) .codes ⌝ }
+    ensures references { λ _. ⌜ map (toBits binary32) (now (references .exit)) ≡ packing.packed mark length (now (widths .entry)) (now (readings .entry)) (now (codes .entry)) (now (references .entry)) (now (exponents .entry)) .references ⌝ }
+    ensures exponents { λ _. ⌜ now (exponents .exit) ≡ packing.packed mark length (now (widths .entry)) (now (readings .entry)) (now (codes .entry)) (now (references .entry)) (now (exponents .entry)) .exponents ⌝ }
 {
-    let answer = packing::pack(readings, mark, length, codes, references, exponents);
+    let answer = packing::pack(readings, length, mark, widths, codes, references, exponents);
     packed_number(answer)
 }
 
@@ -169,9 +170,10 @@ fn unpacked_number(answer: unpacking::Unpacked) -> u32
     }
 }
 
-// Unpacks layers into an array of doubles.
+// Unpacks layers, each of its own width, into an array of doubles.
 #[no_mangle]
 pub extern "C" fn megharutti_unpack(
+    widths: &[u32],
     codes: &[u16],
     references: &[f32],
     exponents: &[i32],
@@ -179,9 +181,9 @@ pub extern "C" fn megharutti_unpack(
     mark: u64,
     readings: &mut [u64],
 ) -> u32
-    ensures answer { λ r. ⌜ r ≡ numberForC (unpack mark length (now (codes .entry)) (map (toBits binary32) (now (references .entry))) (now (exponents .entry)) (now (readings .entry)) .answer) ⌝ }
-    ensures content { λ _. ⌜ now (readings .exit) ≡ unpack mark length (now (codes .entry)) (map (toBits binary32) (now (references .entry))) (now (exponents .entry)) (now (readings .entry)) .readings ⌝ }
+    ensures answer { λ r. ⌜ r ≡ numberForC (unpack mark length (now (widths .entry)) (now (codes .entry)) (map (toBits binary32) (now (references .entry))) (now (exponents .entry)) (now (readings .entry)) .answer) ⌝ }
+    ensures content { λ _. ⌜ now (readings .exit) ≡ unpack mark length (now (widths .entry)) (now (codes .entry)) (map (toBits binary32) (now (references .entry))) (now (exponents .entry)) (now (readings .entry)) .readings ⌝ }
 {
-    let answer = unpacking::unpack(codes, references, exponents, length, mark, readings);
+    let answer = unpacking::unpack(widths, codes, references, exponents, length, mark, readings);
     unpacked_number(answer)
 }

@@ -49,23 +49,23 @@ fn fits_any(row: &[u8]) -> bool {
     match initial(row, 0) {
         b'r' => fits(
             row,
-            b"readings|source:any|L:length|readings:single*3|references:single*4|exponents:integer*4|codes:code*3",
+            b"readings|source:any|L:length|widths:width*5|readings:single*4|references:single*5|exponents:integer*5|codes:code*4",
         ),
         b'c' => fits(
             row,
-            b"codes|source:any|codes:code*2|reference:single|exponent:integer|mark:double?|what must come:double*2",
+            b"codes|source:any|width:width|codes:code*3|reference:single|exponent:integer|mark:double?|what must come:double*3",
         ),
         b'p' => fits(
             row,
-            b"pack|source:any|L:length|readings:single?*3|codes:quantity|references:quantity|exponents:quantity|refusal:refusal",
+            b"pack|source:any|L:length|widths:width?*3|readings:single?*4|codes:quantity|references:quantity|exponents:quantity|refusal:refusal",
         ),
         b'u' => fits(
             row,
-            b"unpack|source:any|L:length|codes:quantity|references:quantity|exponents:quantity|readings:quantity|refusal:refusal",
+            b"unpack|source:any|L:length|widths:width?*3|codes:quantity|references:quantity|exponents:quantity|readings:quantity|refusal:refusal",
         ),
         b'v' => fits(
             row,
-            b"values|source:any|reference:single|exponent:integer|mark:double?|refusal:refusal",
+            b"values|source:any|width:width|code:code|reference:single|exponent:integer|mark:double?|refusal:refusal",
         ),
         b'e' => fits(
             row,

@@ -14,6 +14,8 @@ use table::fields::refusal;
 use table::fields::signed;
 use table::fields::single;
 use table::fields::singles;
+use table::fields::width;
+use table::fields::widths;
 use table::line::answered;
 use table::line::double_at;
 use table::line::end;
@@ -24,6 +26,7 @@ use table::line::put_codes;
 use table::line::put_doubles;
 use table::line::put_exponents;
 use table::line::put_number;
+use table::line::put_numbers;
 use table::line::put_signed;
 use table::line::put_singles;
 use table::line::put_text;
@@ -96,25 +99,28 @@ fn packed_number(answer: packing::Packed) -> u32 {
     }
 }
 
-// n readings packed into arrays of the lengths given, each at most 4, which held `before` throughout.
+// n readings packed by m widths into arrays of the lengths given, each at most 4, which held `before` throughout.
 fn pack(
     before: u16,
     readings: [u32; 4],
     n: usize,
     length: usize,
+    widths: [u32; 4],
+    m: usize,
     codes: usize,
     references: usize,
     exponents: usize,
 ) -> Packs
-    requires { ⌜ (n ≤ 4) × (codes ≤ 4) × (references ≤ 4) × (exponents ≤ 4) ⌝ }
+    requires { ⌜ (n ≤ 4) × (m ≤ 4) × (codes ≤ 4) × (references ≤ 4) × (exponents ≤ 4) ⌝ }
 {
     let mut c = [before; 4];
     let mut r = [before as f32; 4];
     let mut e = [before as i32; 4];
     let answer = packing::pack(
         &readings[..n],
-        MARK,
         length,
+        MARK,
+        &widths[..m],
         &mut c[..codes],
         &mut r[..references],
         &mut e[..exponents],
@@ -145,18 +151,29 @@ fn put_layers(
 // Singles packed into as many layers as there are references, with document 01's mark.
 pub fn layers(row: &[u8]) -> bool {
     let length = decimal(row, 2);
-    let readings = singles(row, 3);
-    let n = count(row, 3);
-    let references = singles(row, 4);
-    let number = count(row, 4);
-    let steps = exponents(row, 5);
-    let all = codes(row, 6);
-    let got = pack(0, readings, n, length as usize, n, number, number);
+    let bits = widths(row, 3);
+    let readings = singles(row, 4);
+    let n = count(row, 4);
+    let references = singles(row, 5);
+    let number = count(row, 5);
+    let steps = exponents(row, 6);
+    let all = codes(row, 7);
+    let got = pack(
+        0,
+        readings,
+        n,
+        length as usize,
+        bits,
+        number,
+        n,
+        number,
+        number,
+    );
     let got_references = got.references;
     let got_steps = got.exponents;
     let got_codes = got.codes;
     let at = put_text(put_singles(start_list(row), readings, n), b" L ");
-    put_number(at, length);
+    put_numbers(put_text(put_number(at, length), b" widths"), bits, number);
     end();
     put_layers(expecting(), references, steps, number, all, n);
     end();
@@ -185,26 +202,31 @@ fn untouched(left: Packs) -> bool {
 // Packing's questions, with document 01's mark: lengths of the arrays, at most 4, and the refusal's number, or 0. Refused, nothing is written.
 pub fn asked_pack(row: &[u8]) -> bool {
     let length = decimal(row, 2);
-    let n = count(row, 3);
-    let codes = length_of(row, 4);
-    let references = length_of(row, 5);
-    let exponents = length_of(row, 6);
+    let bits = widths(row, 3);
+    let m = count(row, 3);
+    let n = count(row, 4);
+    let codes = length_of(row, 5);
+    let references = length_of(row, 6);
+    let exponents = length_of(row, 7);
     let at = put_number(put_text(start(row), b"pack, L "), length);
+    let at = put_numbers(put_text(at, b", widths"), bits, m);
     let at = put_count(at, n, b"readings");
     let at = put_count(at, codes, b"codes");
     let at = put_count(at, references, b"R");
     let at = put_count(at, exponents, b"E");
-    let readings = singles(row, 3);
+    let readings = singles(row, 4);
     let got = pack(
         BEFORE,
         readings,
         n,
         length as usize,
+        bits,
+        m,
         codes,
         references,
         exponents,
     );
-    let expected = refusal(row, 7);
+    let expected = refusal(row, 8);
     let ok = expected == 0 || untouched(got);
     answered(row, at, expected, got.number, ok)
 }
@@ -225,6 +247,8 @@ fn unpacked_number(answer: unpacking::Unpacked) -> u32 {
 // Arrays of the lengths given, each at most 4, unpacked into one that held `before` throughout.
 fn unpack(
     before: u16,
+    widths: [u32; 4],
+    j: usize,
     codes: [u16; 4],
     n: usize,
     references: [u32; 4],
@@ -235,11 +259,12 @@ fn unpack(
     mark: u64,
     readings: usize,
 ) -> Unpacks
-    requires { ⌜ (n ≤ 4) × (m ≤ 4) × (k ≤ 4) × (readings ≤ 4) ⌝ }
+    requires { ⌜ (j ≤ 4) × (n ≤ 4) × (m ≤ 4) × (k ≤ 4) × (readings ≤ 4) ⌝ }
 {
     let r = values(references);
     let mut x = [before as u64; 4];
     let answer = unpacking::unpack(
+        &widths[..j],
         &codes[..n],
         &r[..m],
         &exponents[..k],
@@ -256,15 +281,30 @@ fn unpack(
 
 // The codes of one layer, unpacked into doubles.
 pub fn unpacked(row: &[u8]) -> bool {
-    let all = codes(row, 2);
-    let n = count(row, 2);
-    let references = singles(row, 3);
-    let steps = exponents(row, 4);
-    let missing = mark_double(row, 5);
-    let expected = doubles(row, 6);
-    let got = unpack(0, all, n, references, 1, steps, 1, n, missing, n);
+    let bits = width(row, 2);
+    let all = codes(row, 3);
+    let n = count(row, 3);
+    let references = singles(row, 4);
+    let steps = exponents(row, 5);
+    let missing = mark_double(row, 6);
+    let expected = doubles(row, 7);
+    let got = unpack(
+        0,
+        [bits; 4],
+        1,
+        all,
+        n,
+        references,
+        1,
+        steps,
+        1,
+        n,
+        missing,
+        n,
+    );
     let readings = got.readings;
-    let at = put_layers(start_list(row), references, steps, 1, all, n);
+    let at = put_number(put_text(start_list(row), b" width "), bits as u64);
+    let at = put_layers(at, references, steps, 1, all, n);
     double_at(put_text(at, b" mark"), 0, missing);
     end();
     put_doubles(expecting(), expected, n);
@@ -283,17 +323,22 @@ fn refused_or(row: &[u8], at: usize, expected: u32, left: Unpacks) -> bool {
 // Unpacking's questions on lengths of the arrays, at most 4: the refusal's number, or 0.
 pub fn asked_unpack(row: &[u8]) -> bool {
     let length = decimal(row, 2);
-    let codes = length_of(row, 3);
-    let references = length_of(row, 4);
-    let exponents = length_of(row, 5);
-    let readings = length_of(row, 6);
+    let bits = widths(row, 3);
+    let m = count(row, 3);
+    let codes = length_of(row, 4);
+    let references = length_of(row, 5);
+    let exponents = length_of(row, 6);
+    let readings = length_of(row, 7);
     let at = put_number(put_text(start(row), b"unpack, L "), length);
+    let at = put_numbers(put_text(at, b", widths"), bits, m);
     let at = put_count(at, codes, b"codes");
     let at = put_count(at, references, b"R");
     let at = put_count(at, exponents, b"E");
     let at = put_count(at, readings, b"readings");
     let got = unpack(
         BEFORE,
+        bits,
+        m,
         [0; 4],
         codes,
         [0; 4],
@@ -304,20 +349,26 @@ pub fn asked_unpack(row: &[u8]) -> bool {
         MARK_DOUBLE,
         readings,
     );
-    refused_or(row, at, refusal(row, 7), got)
+    refused_or(row, at, refusal(row, 8), got)
 }
 
 // Unpacking's questions on a layer of one code and on the double mark.
 pub fn asked_layer(row: &[u8]) -> bool {
-    let reference = single(row, 2);
-    let exponent = signed(row, 3);
-    let missing = mark_double(row, 4);
-    let at = single_at(put_text(start(row), b"unpack, R"), 0, reference);
+    let bits = width(row, 2);
+    let code = codes(row, 3);
+    let reference = single(row, 4);
+    let exponent = signed(row, 5);
+    let missing = mark_double(row, 6);
+    let at = put_number(put_text(start(row), b"width "), bits as u64);
+    let at = put_codes(put_text(at, b", code"), code, 1);
+    let at = single_at(put_text(at, b", R"), 0, reference);
     let at = put_signed(put_text(at, b", E "), exponent);
     let at = double_at(put_text(at, b", mark"), 0, missing);
     let got = unpack(
         BEFORE,
-        [0; 4],
+        [bits; 4],
+        1,
+        code,
         1,
         [reference; 4],
         1,
@@ -327,5 +378,5 @@ pub fn asked_layer(row: &[u8]) -> bool {
         missing,
         1,
     );
-    refused_or(row, at, refusal(row, 5), got)
+    refused_or(row, at, refusal(row, 7), got)
 }

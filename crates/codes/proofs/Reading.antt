@@ -10,14 +10,14 @@ use lib.Dec.{lit<, eqb, leb}
 use lib.Pow.{pow-pos, pow-mono, pow-add}
 use Rattle.meaning.specs.Readings.{spacingExp, size, sign, magnitude, pattern, infinity, origin, position}
 use Rattle.meaning.specs.Methods.{nearest}
-use Rattle.meaning.specs.Layers.{code}
+use Rattle.meaning.specs.Layers.{missingCode, code}
 use Rattle.meaning.proofs.Sizes.{Form, form, size-form}
 use Rattle.meaning.proofs.Patterns.{magnitude-pattern, sign-pattern, size-below, position-plus, position-minus}
 use Rattle.meaning.proofs.Powers.{pow-split}
 use Rattle.meaning.proofs.Nearest.{nearest-scale}
 use Rattle.codes.specs.declared.Cut.{Cut}
 use Rattle.codes.specs.declared.Base.{Base}
-use Rattle.codes.specs.Cut.{lostOf, wordOf, cutOf, readingOf, roundWord, opposed, baseOf, layerBy, CanCode}
+use Rattle.codes.specs.Cut.{lostOf, wordOf, cutOf, readingOf, roundWord, opposed, baseOf, layerBy, codeBy, CanCode}
 use Rattle.codes.proofs.Leaf.{lost-small}
 use Rattle.codes.proofs.Sum.{lift, lift-pos, lift-neg, lost-none, code-cut, sum-word}
 
@@ -68,12 +68,12 @@ grown C M g p q = omega (arith, mul-le-mul-left {m = 1} {n = M} C p, mul-le-mul-
 doubled : (C M g : ℕ) → C * M * g + C * M * g ≡ 2 * C * M * g
 doubled C M g = omega arith
 
--- the four outcomes of the test of 2 ^ e, from the word d and the top of 65,534 steps
-pub record Test (w r e d l : ℕ) : Type 0 where
-  pub under : d < 65534 * 2 ^ (e + 1 - (e - 39)) → position 23 8 w - position 23 8 r ≤ 65534 * 2 ^ e
-  pub over : 65534 * 2 ^ (e + 1 - (e - 39)) < d → 65534 * 2 ^ e < position 23 8 w - position 23 8 r
-  pub kept : d ≡ 65534 * 2 ^ (e + 1 - (e - 39)) → l ≡ 0 → position 23 8 w - position 23 8 r ≤ 65534 * 2 ^ e
-  pub lost : d ≡ 65534 * 2 ^ (e + 1 - (e - 39)) → l ≢ 0 → 65534 * 2 ^ e < position 23 8 w - position 23 8 r
+-- the four outcomes of the test of T steps of 2 ^ e, from the word d and the top of the steps
+pub record Test (T w r e d l : ℕ) : Type 0 where
+  pub under : d < T * 2 ^ (e + 1 - (e - 39)) → position 23 8 w - position 23 8 r ≤ T * 2 ^ e
+  pub over : T * 2 ^ (e + 1 - (e - 39)) < d → T * 2 ^ e < position 23 8 w - position 23 8 r
+  pub kept : d ≡ T * 2 ^ (e + 1 - (e - 39)) → l ≡ 0 → position 23 8 w - position 23 8 r ≤ T * 2 ^ e
+  pub lost : d ≡ T * 2 ^ (e + 1 - (e - 39)) → l ≢ 0 → T * 2 ^ e < position 23 8 w - position 23 8 r
 
 module _ (w r : ℕ) (rs : sign 23 8 r ≤ 1) (fw : magnitude 23 8 w < infinity 23 8) (fr : magnitude 23 8 r < infinity 23 8) (le : position 23 8 r ≤ position 23 8 w) where
   abbrev a : ℕ
@@ -176,7 +176,7 @@ module _ (w r : ℕ) (rs : sign 23 8 r ≤ 1) (fw : magnitude 23 8 w < infinity 
 
   -- ---- does 2 ^ e hold the difference
 
-  module _ (e : ℕ) (small : n * 2 / 2 ^ (e - 39) < 2 ^ 60) where
+  module _ (T : ℕ) (one : 1 ≤ T) (e : ℕ) (small : n * 2 / 2 ^ (e - 39) < 2 ^ 60) where
     abbrev s' : ℕ
     s' = e - 39
 
@@ -189,8 +189,12 @@ module _ (w r : ℕ) (rs : sign 23 8 r ≤ 1) (fw : magnitude 23 8 w < infinity 
     step' : 2 ^ e * 2 ≡ 2 ^ k' * g'
     step' = sym (pow-add 2 e 1) ∙ pow-split (e + 1) s' (omega arith)
 
+    -- T of them
+    steps : T * (2 ^ e * 2) ≡ T * (2 ^ k' * g')
+    steps = ap (λ (y : ℕ). T * y) step'
+
     -- both lost something
-    lost-both : lostOf (2 * a) g' + lostOf (2 * b) g' ≡ 2 → n ≤ 65534 * 2 ^ e
+    lost-both : lostOf (2 * a) g' + lostOf (2 * b) g' ≡ 2 → n ≤ T * 2 ^ e
     lost-both h =
         let x : lostOf (2 * a) g' ≡ 1 = omega (arith, lost-small (2 * a) g', lost-small (2 * b) g') in
         let y : lostOf (2 * b) g' ≡ 1 = omega (arith, lost-small (2 * a) g', lost-small (2 * b) g') in
@@ -198,7 +202,7 @@ module _ (w r : ℕ) (rs : sign 23 8 r ≤ 1) (fw : magnitude 23 8 w < infinity 
         let q : (2 * b < 2 ^ 24 * g') × (0 < s') = lost-bound (magnitude 23 8 r) s' y in
         let z : k' ≡ 40 = omega arith in
         let t : 2 ^ e * 2 ≡ 2 ^ 40 * g' = step' ∙ ap (λ (i : ℕ). 2 ^ i * g') z in
-        omega (arith, diff-le)
+        omega (arith, diff-le, mul-le-mul-right (2 ^ e) one)
 
     words' : (lostOf (2 * a) g' + lostOf (2 * b) g' ≢ 2)
         → ((wordOf (sign 23 8 w) (2 * a) g' + wordOf (1 - sign 23 8 r) (2 * b) g') % 2 ^ 64 ≡ n * 2 / g') × (lostOf (2 * a) g' + lostOf (2 * b) g' ≡ 0 → n * 2 % g' ≡ 0)
@@ -209,13 +213,13 @@ module _ (w r : ℕ) (rs : sign 23 8 r ≤ 1) (fw : magnitude 23 8 w < infinity 
         C : ℕ
         C = 2 * a + 2 * b + 1
 
-    test : (d l : ℕ) → d ≡ n * 2 / g' → (l ≡ 0 → n * 2 % g' ≡ 0) → (l ≢ 0 → 0 < n * 2 % g') → Test w r e d l
+    test : (d l : ℕ) → d ≡ n * 2 / g' → (l ≡ 0 → n * 2 % g' ≡ 0) → (l ≢ 0 → 0 < n * 2 % g') → Test T w r e d l
     test d l di none some =
         record {
-          under = λ h. let x : suc d * g' ≤ 65534 * 2 ^ k' * g' = mul-le-mul-right g' h in omega (arith, whole, less, step');
-          over = λ h. let x : suc (65534 * 2 ^ k') * g' ≤ d * g' = mul-le-mul-right g' h in omega (arith, whole, step', pow-pos s');
-          kept = λ h z. let x : d * g' ≡ 65534 * 2 ^ k' * g' = ap (λ (y : ℕ). y * g') h in omega (arith, whole, step', none z);
-          lost = λ h z. let x : d * g' ≡ 65534 * 2 ^ k' * g' = ap (λ (y : ℕ). y * g') h in omega (arith, whole, step', some z);
+          under = λ h. let x : suc d * g' ≤ T * 2 ^ k' * g' = mul-le-mul-right g' h in omega (arith, whole, less, steps);
+          over = λ h. let x : suc (T * 2 ^ k') * g' ≤ d * g' = mul-le-mul-right g' h in omega (arith, whole, steps, pow-pos s');
+          kept = λ h z. let x : d * g' ≡ T * 2 ^ k' * g' = ap (λ (y : ℕ). y * g') h in omega (arith, whole, steps, none z);
+          lost = λ h z. let x : d * g' ≡ T * 2 ^ k' * g' = ap (λ (y : ℕ). y * g') h in omega (arith, whole, steps, some z);
         }
       where
         whole : d * g' + n * 2 % g' ≡ n * 2
@@ -241,20 +245,20 @@ module _ (w r : ℕ) (rs : sign 23 8 r ≤ 1) (fw : magnitude 23 8 w < infinity 
       unfolding readingOf cutOf
       wy = rw (yi, ti, sign-pattern 23 8 (1 - sign 23 8 r) (magnitude 23 8 r) fr, magnitude-pattern 23 8 (1 - sign 23 8 r) (magnitude 23 8 r) fr) refl
 
-      pub both-law : x .lost + y .lost ≡ 2 → position 23 8 w - position 23 8 r ≤ 65534 * 2 ^ e
+      pub both-law : x .lost + y .lost ≡ 2 → position 23 8 w - position 23 8 r ≤ T * 2 ^ e
       both-law h = lost-both (omega (arith, lx, ly))
 
-      pub test-law : (d : ℕ) → d ≡ (x .word + y .word) % 2 ^ 64 → x .lost + y .lost ≢ 2 → Test w r e d (x .lost + y .lost)
+      pub test-law : (d : ℕ) → d ≡ (x .word + y .word) % 2 ^ 64 → x .lost + y .lost ≢ 2 → Test T w r e d (x .lost + y .lost)
       test-law d di h =
           let o = words' (λ z. h (omega (arith, lx, ly))) in
           test d (x .lost + y .lost) (di ∙ rw (wx, wy) (o .0)) (λ z. o .1 (omega (arith, lx, ly))) (λ z. o .2 (λ q. z (omega (arith, lx, ly))))
 
-pub test-even : (w r e d l : ℕ) → Test w r e d l → d ≡ 65534 * 2 ^ (e + 1 - (e - 39)) → eqb l 0 ≡ leb (position 23 8 w - position 23 8 r) (65534 * 2 ^ e)
-test-even w r e d l t h = go (ℕ-discrete l 0)
+pub test-even : (T w r e d l : ℕ) → Test T w r e d l → d ≡ T * 2 ^ (e + 1 - (e - 39)) → eqb l 0 ≡ leb (position 23 8 w - position 23 8 r) (T * 2 ^ e)
+test-even T w r e d l t h = go (ℕ-discrete l 0)
   where
-    go : Dec (l ≡ 0) → eqb l 0 ≡ leb (position 23 8 w - position 23 8 r) (65534 * 2 ^ e)
-    go (yes z) = eq-eqb l 0 z ∙ sym (le-leb (position 23 8 w - position 23 8 r) (65534 * 2 ^ e) (t .kept h z))
-    go (no z) = ne-eqb l 0 z ∙ sym (lt-leb (position 23 8 w - position 23 8 r) (65534 * 2 ^ e) (t .lost h z))
+    go : Dec (l ≡ 0) → eqb l 0 ≡ leb (position 23 8 w - position 23 8 r) (T * 2 ^ e)
+    go (yes z) = eq-eqb l 0 z ∙ sym (le-leb (position 23 8 w - position 23 8 r) (T * 2 ^ e) (t .kept h z))
+    go (no z) = ne-eqb l 0 z ∙ sym (lt-leb (position 23 8 w - position 23 8 r) (T * 2 ^ e) (t .lost h z))
 
 pub sign-small : (r : ℕ) → r < 4294967296 → sign 23 8 r ≤ 1
 unfolding sign
@@ -301,12 +305,17 @@ with-law w b t d c x bi rs fw fr le holds ti xi di ci =
     lost = ap (λ (z : Base). z .lost) bi
 
 -- the clauses of `code_or_mark`, from what a layer gives
-pub marked : (w mark r e : ℕ) (b : Base) → b ≡ baseOf r e → magnitude 23 8 r < infinity 23 8 → e ≤ 263 → (w ≢ mark → CanCode w r e)
+pub marked : (w mark r e : ℕ) (b : Base) → b ≡ baseOf r e → magnitude 23 8 r < infinity 23 8 → e ≤ 277 → (w ≢ mark → CanCode w r e)
     → (b ≡ baseOf (b .reference) (b .exponent))
-    × ((magnitude 23 8 (b .reference) < infinity 23 8) × ((b .exponent ≤ 263) × (w ≢ mark → CanCode w (b .reference) (b .exponent))))
+    × ((magnitude 23 8 (b .reference) < infinity 23 8) × ((b .exponent ≤ 277) × (w ≢ mark → CanCode w (b .reference) (b .exponent))))
 unfolding baseOf
 marked w mark r e b h fr le c = rw h (refl, (fr, (le, c)))
 
-pub based : (w mark r e : ℕ) (b : Base) → b ≡ baseOf r e → code 23 8 16 mark (layerBy (b .reference) (b .exponent)) w ≡ code 23 8 16 mark (layerBy r e) w
+pub based : (m w mark r e : ℕ) (b : Base) → b ≡ baseOf r e → codeBy m mark (b .reference) (b .exponent) w ≡ codeBy m mark r e w
 unfolding baseOf
-based w mark r e b h = ap (λ (x : Base). code 23 8 16 mark (layerBy (x .reference) (x .exponent)) w) h
+based m w mark r e b h = ap (λ (x : Base). codeBy m mark (x .reference) (x .exponent) w) h
+
+-- the definition's code is that of its missing code
+pub by-width : (b m mark r e w : ℕ) → m ≡ missingCode b → codeBy m mark r e w ≡ code 23 8 mark (layerBy b r e) w
+unfolding code
+by-width b m mark r e w h = ap (λ (x : ℕ). codeBy x mark r e w) h

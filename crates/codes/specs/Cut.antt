@@ -5,14 +5,19 @@ use mathlib.Core.Logic.{_≢_}
 use mathlib.Core.List.{List}
 use lib.ListN.{length, getD}
 use lib.Dec.{eqb}
-use Rattle.meaning.specs.Readings.{magnitude, sign, pattern, size, infinity, position}
+use Rattle.meaning.specs.Readings.{magnitude, sign, pattern, size, infinity, position, missing}
+use Rattle.meaning.specs.Methods.{nearest}
 use Rattle.meaning.specs.Layers.{Layer}
 use Rattle.codes.specs.declared.Cut.{Cut}
 use Rattle.codes.specs.declared.Base.{Base}
 
--- the layer of a reference's pattern and an exponent counted from -149
-abbrev pub layerBy : ℕ → ℕ → Layer
-layerBy r e = record { reference = r; exponent = e }
+-- the layer of a width, a reference's pattern and an exponent counted from -149
+abbrev pub layerBy : ℕ → ℕ → ℕ → Layer
+layerBy w r e = record { width = w; reference = r; exponent = e }
+
+-- a code, where m means missing
+abbrev pub codeBy : ℕ → ℕ → ℕ → ℕ → ℕ → ℕ
+codeBy m mark r e w = cond (missing mark w) m (nearest (position 23 8 w - position 23 8 r) (2 ^ e))
 
 unfoldable pub flagOf : ℕ → ℕ → ℕ
 flagOf a b = cond (eqb a b) 0 1

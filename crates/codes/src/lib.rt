@@ -9,7 +9,7 @@ ghost use lib.ListN.{length};
 ghost use Rattle.meaning.specs.Readings.{magnitude, sign, pattern, infinity, spacingExp, size, position};
 ghost use Rattle.meaning.specs.Methods.{nearest};
 ghost use Rattle.meaning.specs.Layers.{leastFrom, code};
-ghost use Rattle.codes.specs.Cut.{AllReady, CanCode, cutOf, readingOf, baseOf, bump, roundWord, flagOf, layerBy};
+ghost use Rattle.codes.specs.Cut.{AllReady, CanCode, cutOf, readingOf, baseOf, bump, roundWord, flagOf, layerBy, codeBy};
 
 // A signed size in whole units, rounded down, modulo 2^64, and whether something was lost.
 pub struct Cut {
@@ -157,7 +157,7 @@ fn unit_of(e: u32) -> u32
 // The part of a code that is the same for the whole layer.
 pub fn base_of(r: u32, e: u32) -> Base
     requires { ⌜ magnitude 23 8 r < infinity 23 8 ⌝ }
-    requires { ⌜ e ≤ 263 ⌝ }
+    requires { ⌜ e ≤ 277 ⌝ }
     requires { ⌜ size 23 (magnitude 23 8 r) < 2 ^ (e + 41) ⌝ }
     ensures { λ b. ⌜ b ≡ baseOf r e ⌝ }
 {
@@ -177,7 +177,7 @@ pub fn code_with(w: u32, base: Base) -> u16
     requires { ⌜ base ≡ baseOf (base .reference) (base .exponent) ⌝ }
     requires { ⌜ magnitude 23 8 w < infinity 23 8 ⌝ }
     requires { ⌜ magnitude 23 8 (base .reference) < infinity 23 8 ⌝ }
-    requires { ⌜ base .exponent ≤ 263 ⌝ }
+    requires { ⌜ base .exponent ≤ 277 ⌝ }
     requires { ⌜ size 23 (magnitude 23 8 w) < 2 ^ (base .exponent + 41) ⌝ }
     requires { ⌜ position 23 8 (base .reference) ≤ position 23 8 w ⌝ }
     requires { ⌜ position 23 8 w - position 23 8 (base .reference) ≤ 65534 * 2 ^ base .exponent ⌝ }
@@ -191,24 +191,27 @@ pub fn code_with(w: u32, base: Base) -> u16
     c as u16
 }
 
-// 65,534 steps of 2^k.
-fn top_of(k: u32) -> u64
+// So many steps of 2^k.
+fn top_of(steps: u64, k: u32) -> u64
+    requires { ⌜ steps ≤ 65534 ⌝ }
     requires { ⌜ k ≤ 40 ⌝ }
-    ensures { λ r. ⌜ r ≡ 65534 * 2 ^ k ⌝ }
+    ensures { λ r. ⌜ r ≡ steps * 2 ^ k ⌝ }
 {
-    65534u64 << k
+    steps << k
 }
 
-// Does 2^e hold the span from lo to hi?
-fn holds_at(hi: u32, lo: u32, e: u32) -> bool
+// Do so many steps of 2^e hold the span from lo to hi?
+fn holds_at(hi: u32, lo: u32, e: u32, steps: u64) -> bool
     requires { ⌜ magnitude 23 8 hi < infinity 23 8 ⌝ }
     requires { ⌜ magnitude 23 8 lo < infinity 23 8 ⌝ }
-    requires { ⌜ e ≤ 263 ⌝ }
+    requires { ⌜ e ≤ 277 ⌝ }
     requires { ⌜ spacingExp 23 (magnitude 23 8 hi) < e - 39 + 64 ⌝ }
     requires { ⌜ spacingExp 23 (magnitude 23 8 lo) < e - 39 + 64 ⌝ }
     requires { ⌜ position 23 8 lo ≤ position 23 8 hi ⌝ }
     requires { ⌜ (position 23 8 hi - position 23 8 lo) * 2 / 2 ^ (e - 39) < 2 ^ 60 ⌝ }
-    ensures { λ r. ⌜ r ≡ leb (position 23 8 hi - position 23 8 lo) (65534 * 2 ^ e) ⌝ }
+    requires { ⌜ 1 ≤ steps ⌝ }
+    requires { ⌜ steps ≤ 65534 ⌝ }
+    ensures { λ r. ⌜ r ≡ leb (position 23 8 hi - position 23 8 lo) (steps * 2 ^ e) ⌝ }
 {
     let s = unit_of(e);
     let a = cut_reading(hi, s);
@@ -219,7 +222,7 @@ fn holds_at(hi: u32, lo: u32, e: u32) -> bool
         return true;
     }
     let d = std::num::wrapping_add_u64(a.word, b.word);
-    let top = top_of(e + 1 - s);
+    let top = top_of(steps, e + 1 - s);
     if d < top {
         return true;
     }
@@ -238,19 +241,22 @@ fn larger(x: u32, y: u32) -> u32
     x
 }
 
-// The least exponent, in least spacings, that holds the span from lo to hi.
-pub fn least_step(lo: u32, hi: u32) -> u32
+// The least exponent, in least spacings, whose steps hold the span from lo to hi.
+pub fn least_step(lo: u32, hi: u32, width: u32) -> u32
     requires { ⌜ magnitude 23 8 lo < infinity 23 8 ⌝ }
     requires { ⌜ magnitude 23 8 hi < infinity 23 8 ⌝ }
     requires { ⌜ position 23 8 lo < position 23 8 hi ⌝ }
-    ensures { λ r. ⌜ r ≡ leastFrom 16 (position 23 8 hi - position 23 8 lo) 263 0 ⌝ }
+    requires { ⌜ 2 ≤ width ⌝ }
+    requires { ⌜ width ≤ 16 ⌝ }
+    ensures { λ r. ⌜ r ≡ leastFrom width (position 23 8 hi - position 23 8 lo) 277 0 ⌝ }
 {
+    let steps = layer_width::steps_of(width);
     let x = shift_of(lo % 2147483648);
     let y = shift_of(hi % 2147483648);
     let z = larger(x, y);
-    let mut e = z + 10;
+    let mut e = z + 26 - width;
     while 0 < e {
-        let h = holds_at(hi, lo, e - 1);
+        let h = holds_at(hi, lo, e - 1, steps);
         if h {
             e -= 1;
         } else {
@@ -261,32 +267,34 @@ pub fn least_step(lo: u32, hi: u32) -> u32
 }
 
 // The code of a reading that may be missing.
-fn code_or_mark(w: u32, mark: u32, base: Base) -> u16
+fn code_or_mark(w: u32, mark: u32, base: Base, missing: u16) -> u16
     requires { ⌜ base ≡ baseOf (base .reference) (base .exponent) ⌝ }
     requires { ⌜ magnitude 23 8 (base .reference) < infinity 23 8 ⌝ }
-    requires { ⌜ base .exponent ≤ 263 ⌝ }
+    requires { ⌜ base .exponent ≤ 277 ⌝ }
     requires { ⌜ (w ≢ mark → CanCode w (base .reference) (base .exponent)) ⌝ }
-    ensures { λ c. ⌜ c ≡ code 23 8 16 mark (layerBy (base .reference) (base .exponent)) w ⌝ }
+    ensures { λ c. ⌜ c ≡ codeBy missing mark (base .reference) (base .exponent) w ⌝ }
 {
     if w == mark {
-        return 65535;
+        return missing;
     }
     code_with(w, base)
 }
 
 // The codes of a layer.
-pub fn codes_of(readings: &[u32], mark: u32, r: u32, e: u32, out: &mut [u16])
+pub fn codes_of(readings: &[u32], mark: u32, r: u32, e: u32, width: u32, out: &mut [u16])
     requires { ⌜ magnitude 23 8 r < infinity 23 8 ⌝ }
-    requires { ⌜ e ≤ 263 ⌝ }
+    requires { ⌜ e ≤ 277 ⌝ }
     requires { ⌜ size 23 (magnitude 23 8 r) < 2 ^ (e + 41) ⌝ }
     requires { ⌜ AllReady mark r e (now readings) ⌝ }
     requires { ⌜ length (now readings) ≡ length (now out) ⌝ }
-    ensures { λ _. ⌜ now (out .exit) ≡ map (code 23 8 16 mark (layerBy r e)) (now (readings .entry)) ⌝ }
+    requires { ⌜ width ≤ 16 ⌝ }
+    ensures { λ _. ⌜ now (out .exit) ≡ map (code 23 8 mark (layerBy width r e)) (now (readings .entry)) ⌝ }
 {
     let base = base_of(r, e);
+    let missing = layer_width::missing_of(width);
     let mut i: usize = 0;
     while i < readings.len() {
-        out[i] = code_or_mark(readings[i], mark, base);
+        out[i] = code_or_mark(readings[i], mark, base, missing);
         i += 1;
     }
 }

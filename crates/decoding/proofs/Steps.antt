@@ -11,7 +11,7 @@ use lib.Ieee.{nan, inf, fin, binary64, ofBits, ofFields, odd, minus}
 use mir.Facts.{toZ-ofZ}
 use mir.Syntax.{w32}
 use mir.Val.{SFits, toZ, ofZ}
-use Rattle.meaning.specs.Questions.{above, between}
+use Rattle.meaning.specs.Questions.{above, exponentInRange}
 use Rattle.meaning.proofs.Accepted.{and-first}
 use Rattle.asking.proofs.Signs.{add-above}
 use Rattle.decoding.specs.Floats.{twoTo}
@@ -31,27 +31,27 @@ value x h = ap (λ (t : Bool). cond t (cond (eqb 0 0) (inf false) nan) (odd 53 f
     no : suc x ≡ 2047 → ⊥
     no e = omega arith
 
-pub most : (k : ℕ) → between (negsuc 148) (pos k) (pos 114) ≡ true → k ≤ 114
-most k t = leb-true k 114 t
+pub most : (k : ℕ) → exponentInRange (pos k) ≡ true → k ≤ 128
+most k t = leb-true k 128 t
 
-pub least : (k : ℕ) → between (negsuc 148) (negsuc k) (pos 114) ≡ true → k ≤ 148
+pub least : (k : ℕ) → exponentInRange (negsuc k) ≡ true → k ≤ 148
 least k t = leb-true k 148 (and-first (leb k 148) true t)
 
-pub small : (e : ℤ) → between (negsuc 148) e (pos 114) ≡ true → (874 ≤ above 1023 e) × (above 1023 e ≤ 1137)
+pub small : (e : ℤ) → exponentInRange e ≡ true → (874 ≤ above 1023 e) × (above 1023 e ≤ 1151)
 unfolding above
 small (pos k) t = (omega arith, omega (arith, most k t))
 small (negsuc k) t = (omega (arith, least k t), omega arith)
 
-exponent : (e : ℤ) → between (negsuc 148) e (pos 114) ≡ true → minus (above 1023 e - 1 + 52) 1074 ≡ e
+exponent : (e : ℤ) → exponentInRange e ≡ true → minus (above 1023 e - 1 + 52) 1074 ≡ e
 unfolding above
 exponent (pos k) t = rw (le-leb 1074 (1023 + k - 1 + 52) (omega arith)) (ap pos (omega arith))
 exponent (negsuc k) t = let h = least k t in rw (lt-leb 1074 (1023 - suc k - 1 + 52) (omega arith)) (ap negsuc (omega arith))
 
-low : (e : ℤ) → between (negsuc 148) e (pos 114) ≡ true → ltZ e (negsuc 1022) ≡ false
+low : (e : ℤ) → exponentInRange e ≡ true → ltZ e (negsuc 1022) ≡ false
 low (pos k) t = refl
 low (negsuc k) t = le-ltb 1022 k (omega (arith, least k t))
 
-module _ (e : ℤ) (t : between (negsuc 148) e (pos 114) ≡ true) where
+module _ (e : ℤ) (t : exponentInRange e ≡ true) where
   pub step-is : ofBits binary64 (above 1023 e * 2 ^ 52) ≡ twoTo e
   step-is =
       let b = small e t in

@@ -15,7 +15,7 @@ use lib.Ieee.Back.{round-whole}
 use lib.Ieee.Exact.{HasValue, round-exact}
 use lib.Ieee.Fits.{down-pos}
 use lib.Ieee.Scale.{round-same}
-use Rattle.meaning.specs.Questions.{above, between}
+use Rattle.meaning.specs.Questions.{above, exponentInRange}
 use Rattle.absolute.proofs.Values.{left-cross, right-cross, minus-cross, less-cross, add-values}
 use Rattle.decoding.specs.declared.LayerFloats.{LayerFloats}
 use Rattle.decoding.specs.Floats.{twoTo, unpacked}
@@ -73,19 +73,19 @@ add-minus f a b c p (fin u m e) (fin v n g) h k = rw (h .0, k .0) (go (decLt a b
 -- ---- the product
 
 -- 2^e is 2 ^ (above 149 e) least spacings
-step-value : (e : ℤ) → between (negsuc 148) e (pos 114) ≡ true → HasValue (twoTo e) false (2 ^ above 149 e) (2 ^ 149)
+step-value : (e : ℤ) → exponentInRange e ≡ true → HasValue (twoTo e) false (2 ^ above 149 e) (2 ^ 149)
 unfolding above
 step-value (pos k) t = (refl, rw one-mul (sym (pow-add 2 k 149) ∙ ap (λ (n : ℕ). 2 ^ n) {x = k + 149} {y = 149 + k} (omega arith) ∙ sym (mul-one (2 ^ (149 + k)))))
 step-value (negsuc k) t =
     (refl, one-mul (2 ^ 149) ∙ ap (λ (n : ℕ). 2 ^ n) {x = 149} {y = 149 - suc k + suc k} (omega (arith, least k t)) ∙ pow-add 2 (149 - suc k) (suc k))
 
-pub exponent-most : (e : ℤ) → between (negsuc 148) e (pos 114) ≡ true → above 149 e ≤ 263
+pub exponent-most : (e : ℤ) → exponentInRange e ≡ true → above 149 e ≤ 277
 unfolding above
 exponent-most (pos k) t = omega (arith, most k t)
 exponent-most (negsuc k) t = omega arith
 
 -- c * 2 ^ (E - 149), for a c of 53 bits, is a double
-exact : (c E : ℕ) → c < 2 ^ 53 → E ≤ 263 → HasValue (round binary64 false (c * 2 ^ E) (2 ^ 149)) false (c * 2 ^ E) (2 ^ 149)
+exact : (c E : ℕ) → c < 2 ^ 53 → E ≤ 277 → HasValue (round binary64 false (c * 2 ^ E) (2 ^ 149)) false (c * 2 ^ E) (2 ^ 149)
 exact c E h k =
     round-exact binary64 false (c * 2 ^ E) (2 ^ 149) c (925 + E) (pow-pos 149) h
     (lt-of-lt-of-le (shl-lt 53 (925 + E) h) (pow-mono {i = 53 + (925 + E)} {j = 2098} (omega arith)))
@@ -93,7 +93,7 @@ exact c E h k =
     ∙ ap (λ (z : ℕ). c * z) (sym (pow-add 2 E 1074) ∙ ap (λ (n : ℕ). 2 ^ n) {x = E + 1074} {y = 925 + E + 149} (omega arith) ∙ pow-add 2 (925 + E) 149)
     ∙ sym (mul-assoc c (2 ^ (925 + E)) (2 ^ 149)))
 
-pub product-exact : (code : ℕ) (e : ℤ) → code < 2 ^ 53 → between (negsuc 148) e (pos 114) ≡ true
+pub product-exact : (code : ℕ) (e : ℤ) → code < 2 ^ 53 → exponentInRange e ≡ true
     → HasValue (mul binary64 (ofInt binary64 (pos code)) (twoTo e)) false (code * 2 ^ above 149 e) (2 ^ 149)
 unfolding ofInt
 product-exact code e h t =
@@ -107,7 +107,7 @@ product-exact code e h t =
 
 -- ---- the sum: of a reference that is not negative, and of one that is
 
-module _ (l : LayerFloats) (code : ℕ) (e : ℤ) (a : ℕ) (h : code < 2 ^ 16) (t : between (negsuc 148) e (pos 114) ≡ true) (q : l .step ≡ twoTo e) where
+module _ (l : LayerFloats) (code : ℕ) (e : ℤ) (a : ℕ) (h : code < 2 ^ 16) (t : exponentInRange e ≡ true) (q : l .step ≡ twoTo e) where
   pub unpacked-plus : HasValue (l .reference) false a (2 ^ 149) → unpacked l code ≡ round binary64 false (code * 2 ^ above 149 e + a) (2 ^ 149)
   unfolding unpacked
   unpacked-plus v = rw q (add-values binary64 (code * 2 ^ above 149 e) a (2 ^ 149) (pow-pos 149) _ (l .reference) (product-exact code e (omega arith) t) v)

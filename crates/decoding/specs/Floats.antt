@@ -2,13 +2,12 @@
 use mathlib.Core.Path.{_≡_}
 use mathlib.Core.Bool.{Bool, true, false, cond}
 use Prim.Native.Nat.{ℕ, _*_, _^_}
-use lib.Dec.{eqb}
-use lib.IntN.{ℤ, pos, negsuc}
-use lib.Ieee.{Float, nan, inf, fin, binary32, binary64, ofInt, mul, add, toBits}
+use lib.IntN.{ℤ, pos}
+use lib.Ieee.{Float, nan, inf, fin, binary32, binary64, ofInt, mul, add, eq, toBits}
 use lib.Ieee.Exact.{HasValue}
 use Rattle.meaning.specs.Readings.{origin}
 use Rattle.meaning.specs.Layers.{codeMeaning, nearestDouble}
-use Rattle.meaning.specs.Questions.{above, between}
+use Rattle.meaning.specs.Questions.{above}
 use Rattle.meaning.specs.Calls.{storedLayer}
 use Rattle.decoding.specs.declared.LayerFloats.{LayerFloats}
 
@@ -16,10 +15,6 @@ abbrev pub finiteFloat : Float → Bool
 finiteFloat nan = false
 finiteFloat (inf s) = false
 finiteFloat (fin s m e) = true
-
--- "each E in -149 to 114"
-abbrev pub stepExponent : ℤ → Bool
-stepExponent e = between (negsuc 148) e (pos 114)
 
 -- 2^e
 abbrev pub twoTo : ℤ → Float
@@ -33,15 +28,15 @@ pub record Finite (l : LayerFloats) : Type 0 where
 unfoldable pub unpacked : LayerFloats → ℕ → Float
 unpacked l code = add binary64 (mul binary64 (ofInt binary64 (pos code)) (l .step)) (l .reference)
 
--- its pattern, or the mark for a missing code
+-- its pattern, or the mark for the layer's missing code
 unfoldable pub decoded : LayerFloats → ℕ → ℕ → ℕ
-decoded l mark code = cond (eqb code 65535) mark (toBits binary64 (unpacked l code))
+decoded l mark code = cond (eq (ofInt binary64 (pos code)) (l .missing)) mark (toBits binary64 (unpacked l code))
 
--- "so that only the addition rounds": of a code in a layer whose step is 2^e
-pub record RoundedOnce (l : LayerFloats) (e : ℤ) (code : ℕ) : Type 0 where
+-- "so that only the addition rounds": of a code in a layer of width w whose step is 2^e
+pub record RoundedOnce (l : LayerFloats) (w : ℕ) (e : ℤ) (code : ℕ) : Type 0 where
   -- the product is exact; sizes are counted in least spacings of singles
   pub product : HasValue (mul binary64 (ofInt binary64 (pos code)) (l .step)) false (code * 2 ^ above 149 e) (2 ^ 149)
   -- the sum is the double nearest to the exact meaning of the code, finite, and +0 where that is zero
-  pub nearest : toBits binary64 (unpacked l code) ≡ nearestDouble (codeMeaning 23 8 (storedLayer (toBits binary32 (l .reference)) e) code)
+  pub nearest : toBits binary64 (unpacked l code) ≡ nearestDouble (codeMeaning 23 8 (storedLayer w (toBits binary32 (l .reference)) e) code)
   pub finite : finiteFloat (unpacked l code) ≡ true
-  pub zero : codeMeaning 23 8 (storedLayer (toBits binary32 (l .reference)) e) code ≡ origin 23 8 → toBits binary64 (unpacked l code) ≡ 0
+  pub zero : codeMeaning 23 8 (storedLayer w (toBits binary32 (l .reference)) e) code ≡ origin 23 8 → toBits binary64 (unpacked l code) ≡ 0

@@ -1,4 +1,4 @@
-// How a 16-bit code becomes a double: the code as a double, times its layer's step, plus the layer's reference, so that only the addition rounds. One code, and one layer.
+// How a code becomes a double: the code as a double, times its layer's step, plus the layer's reference, so that only the addition rounds. One code, and one layer.
 // Internal: the call open to users is unpacking's.
 ghost use mathlib.Core.Path.{_≡_};
 ghost use mathlib.Core.Bool.{true};
@@ -7,17 +7,19 @@ ghost use Prim.Native.Nat.{_^_, _≤_};
 ghost use lib.Ieee.{binary32, toBits};
 ghost use lib.ListN.{length};
 ghost use Rattle.meaning.specs.Readings.{magnitude};
-ghost use Rattle.decoding.specs.Floats.{finiteFloat, stepExponent, twoTo, unpacked, Finite, decoded};
+ghost use Rattle.meaning.specs.Questions.{exponentInRange};
+ghost use Rattle.decoding.specs.Floats.{finiteFloat, twoTo, unpacked, Finite, decoded};
 
-// A layer's reference and step as floats, which travel together.
+// A layer's reference and step as floats, which travel together, and the code that means missing in its width, as a double too.
 pub struct LayerFloats {
     pub reference: f32,
     pub step: f64,
+    pub missing: f64,
 }
 
 // 2^exponent as a double, made by its pattern.
 pub fn step_of(exponent: i32) -> f64
-    requires { ⌜ stepExponent exponent ≡ true ⌝ }
+    requires { ⌜ exponentInRange exponent ≡ true ⌝ }
     ensures { λ r. ⌜ r ≡ twoTo exponent ⌝ }
 {
     f64::from_bits(((exponent + 1023) as u64) << 52)
@@ -60,9 +62,13 @@ fn unpack_code(l: LayerFloats, code: u16, mark: u64) -> u64
     requires { ⌜ Finite l ⌝ }
     ensures { λ r. ⌜ r ≡ decoded l mark code ⌝ }
 {
-    // computed before it is chosen, so that a loop over this has no branch
+    // Computed before it is chosen, so that a loop over this has no branch. Codes are compared as doubles, whose comparison is as wide as what is chosen.
     let double = f64::to_bits(value_of(l, code));
-    if code == 65535 { mark } else { double }
+    if (code as f64) == l.missing {
+        mark
+    } else {
+        double
+    }
 }
 
 // One layer: its doubles go into the lent part.

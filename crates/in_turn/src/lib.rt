@@ -61,30 +61,31 @@ pub fn in_turn_doubles(readings: &mut [u64], methods: &[u32], settings: &[i32], 
 }
 
 // Trims an array of singles by each call of a list in turn, then packs it with the list's mark and answers what the packing answers. Where that refuses, the readings are
-// trimmed all the same. What document 01 defines (demand 2), and what demand 3 promises of the arrays before and after. No call open to users, and not exported.
+// trimmed all the same. What the documents define (demand 2), and what demand 3 promises of the arrays before and after. No call open to users, and not exported.
 pub fn in_turn_packed(
     readings: &mut [u32],
     methods: &[u32],
     settings: &[i32],
-    mark: u32,
     length: usize,
+    mark: u32,
+    widths: &[u32],
     codes: &mut [u16],
     references: &mut [f32],
     exponents: &mut [i32],
 ) -> packing::Packed
     ensures readings { λ _. ⌜ now (readings .exit) ≡ inTurn 23 8 (callsOf (now (methods .entry)) (now (settings .entry))) mark (now (readings .entry)) ⌝ }
-    ensures answer { λ r. ⌜ answerOf r ≡ packed mark length
+    ensures answer { λ r. ⌜ answerOf r ≡ packed mark length (now (widths .entry))
         (inTurn 23 8 (callsOf (now (methods .entry)) (now (settings .entry))) mark (now (readings .entry))) (now (codes .entry)) (now (references .entry)) (now (exponents .entry)) .answer ⌝ }
-    ensures codes { λ _. ⌜ now (codes .exit) ≡ packed mark length
+    ensures codes { λ _. ⌜ now (codes .exit) ≡ packed mark length (now (widths .entry))
         (inTurn 23 8 (callsOf (now (methods .entry)) (now (settings .entry))) mark (now (readings .entry))) (now (codes .entry)) (now (references .entry)) (now (exponents .entry)) .codes ⌝ }
-    ensures references { λ _. ⌜ map (toBits binary32) (now (references .exit)) ≡ packed mark length
+    ensures references { λ _. ⌜ map (toBits binary32) (now (references .exit)) ≡ packed mark length (now (widths .entry))
         (inTurn 23 8 (callsOf (now (methods .entry)) (now (settings .entry))) mark (now (readings .entry))) (now (codes .entry)) (now (references .entry)) (now (exponents .entry)) .references ⌝ }
-    ensures exponents { λ _. ⌜ now (exponents .exit) ≡ packed mark length
+    ensures exponents { λ _. ⌜ now (exponents .exit) ≡ packed mark length (now (widths .entry))
         (inTurn 23 8 (callsOf (now (methods .entry)) (now (settings .entry))) mark (now (readings .entry))) (now (codes .entry)) (now (references .entry)) (now (exponents .entry)) .exponents ⌝ }
     ensures promised { λ _. ⌜ Promised 23 8 (callsOf (now (methods .entry)) (now (settings .entry))) mark (now (readings .entry)) (now (readings .exit)) ⌝ }
-    ensures claim { λ r. ⌜ PackPromised (callsOf (now (methods .entry)) (now (settings .entry))) mark (now (readings .entry)) (now (readings .exit)) length
+    ensures claim { λ r. ⌜ PackPromised (callsOf (now (methods .entry)) (now (settings .entry))) mark (now (readings .entry)) (now (readings .exit)) length (now (widths .entry))
         (answerOf r) (now (codes .exit)) (map (toBits binary32) (now (references .exit))) (now (exponents .exit)) ⌝ }
 {
     in_turn_singles(readings, methods, settings, mark);
-    packing::pack(readings, mark, length, codes, references, exponents)
+    packing::pack(readings, length, mark, widths, codes, references, exponents)
 }

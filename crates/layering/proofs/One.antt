@@ -5,7 +5,7 @@ use mathlib.Core.List.{List, [], _∷_, map}
 use Prim.Native.Nat.{ℕ, suc, _-_, _*_, _^_, _<_, zero-le, suc-le-suc}
 use native.Mathlib.Decide.{ℕ-discrete}
 use native.Mathlib.Omega.{arith}
-use borrow.Author.Tests.{eq-eqb, ne-eqb}
+use borrow.Author.Tests.{eq-eqb, ne-eqb, le-leb}
 use lib.IntN.{negsuc, subℕ}
 use lib.ListN.{length, getD}
 use Rattle.meaning.specs.Readings.{position, missing}
@@ -21,17 +21,17 @@ pub map-same : {A : Type 0} (f g : ℕ → A) (ws : List ℕ) → ((i : ℕ) →
 map-same f g [] h = refl
 map-same f g (w ∷ ws) h = ap (λ x. x ∷ map f ws) (h 0 (suc-le-suc zero-le)) ∙ ap (λ x. g w ∷ x) (map-same f g ws (λ i k. h (suc i) (suc-le-suc k)))
 
-flat-missing : (mark w : ℕ) → w ≡ mark → flatCode mark w ≡ missingCode 16
-unfolding flatCode missingCode
-flat-missing mark w e = rw (eq-eqb w mark e) refl
-
-flat-present : (mark w : ℕ) → w ≢ mark → flatCode mark w ≡ 0
+flat-missing : (m mark w : ℕ) → w ≡ mark → flatCode m mark w ≡ m
 unfolding flatCode
-flat-present mark w e = rw (ne-eqb w mark e) refl
+flat-missing m mark w e = rw (eq-eqb w mark e) refl
 
-first : leastFrom 16 0 263 0 ≡ 0
-unfolding leastFrom holds lastCode
-first = refl
+flat-present : (m mark w : ℕ) → w ≢ mark → flatCode m mark w ≡ 0
+unfolding flatCode
+flat-present m mark w e = rw (ne-eqb w mark e) refl
+
+first : (b : ℕ) → leastFrom b 0 277 0 ≡ 0
+unfolding leastFrom holds
+first b = rw (le-leb 0 (lastCode b * 2 ^ 0) zero-le) refl
 
 -- its reference and span
 one-smallest : (s : Summary) (r : ℕ) → One s r → r ≡ smallest s
@@ -46,16 +46,16 @@ one-span Nothing r h = refl
 one-span (Flat a) r h = refl
 one-span (Spread a z) r h = absurd h
 
-module _ (mark : ℕ) (ws : List ℕ) (r : ℕ) (h : One (summary 23 8 mark ws) r) where
-  pub one-reference : r ≡ layerOf 23 8 16 263 mark ws .reference
+module _ (b mark : ℕ) (ws : List ℕ) (r : ℕ) (h : One (summary 23 8 mark ws) r) where
+  pub one-reference : r ≡ layerOf 23 8 277 mark b ws .reference
   unfolding layerOf
   one-reference = one-smallest (summary 23 8 mark ws) r h
 
-  one-exponent : layerOf 23 8 16 263 mark ws .exponent ≡ 0
+  one-exponent : layerOf 23 8 277 mark b ws .exponent ≡ 0
   unfolding layerOf
-  one-exponent = rw (one-span (summary 23 8 mark ws) r h) first
+  one-exponent = rw (one-span (summary 23 8 mark ws) r h) (first b)
 
-  pub one-stored : negsuc 148 ≡ storedExponent (layerOf 23 8 16 263 mark ws)
+  pub one-stored : negsuc 148 ≡ storedExponent (layerOf 23 8 277 mark b ws)
   unfolding storedExponent
   one-stored = ap (λ (e : ℕ). subℕ e 149) (sym one-exponent)
 
@@ -68,17 +68,18 @@ module _ (mark : ℕ) (ws : List ℕ) (r : ℕ) (h : One (summary 23 8 mark ws) 
       go (Flat a) o p = ap (position 23 8) o ∙ p
       go (Spread a z) o p = absurd o
 
-  code-zero : (w : ℕ) → position 23 8 r ≡ position 23 8 w → nearest (position 23 8 w - position 23 8 (layerOf 23 8 16 263 mark ws .reference)) (2 ^ layerOf 23 8 16 263 mark ws .exponent) ≡ 0
+  code-zero : (w : ℕ) → position 23 8 r ≡ position 23 8 w → nearest (position 23 8 w - position 23 8 (layerOf 23 8 277 mark b ws .reference)) (2 ^ layerOf 23 8 277 mark b ws .exponent) ≡ 0
   code-zero w e =
-      let d : position 23 8 w - position 23 8 (layerOf 23 8 16 263 mark ws .reference) ≡ 0 * 1 = omega (arith, e, ap (position 23 8) one-reference) in
+      let d : position 23 8 w - position 23 8 (layerOf 23 8 277 mark b ws .reference) ≡ 0 * 1 = omega (arith, e, ap (position 23 8) one-reference) in
       rw (one-exponent, d) (nearest-multiple 0 1 (omega arith))
 
-  pub one-codes : map (flatCode mark) ws ≡ map (code 23 8 16 mark (layerOf 23 8 16 263 mark ws)) ws
-  one-codes = map-same (flatCode mark) (code 23 8 16 mark (layerOf 23 8 16 263 mark ws)) ws (λ i k. at i k (ℕ-discrete (getD ws i 0) mark))
+  pub one-codes : (m : ℕ) → m ≡ missingCode b → map (flatCode m mark) ws ≡ map (code 23 8 mark (layerOf 23 8 277 mark b ws)) ws
+  unfolding layerOf
+  one-codes m me = map-same (flatCode m mark) (code 23 8 mark (layerOf 23 8 277 mark b ws)) ws (λ i k. at i k (ℕ-discrete (getD ws i 0) mark))
     where
       l : Layer
-      l = layerOf 23 8 16 263 mark ws
+      l = layerOf 23 8 277 mark b ws
 
-      at : (i : ℕ) → i < length ws → Dec (getD ws i 0 ≡ mark) → flatCode mark (getD ws i 0) ≡ code 23 8 16 mark (layerOf 23 8 16 263 mark ws) (getD ws i 0)
-      at i k (yes e) = flat-missing mark (getD ws i 0) e ∙ sym (code-missing 23 8 16 mark l (getD ws i 0) e)
-      at i k (no e) = flat-present mark (getD ws i 0) e ∙ sym (code-present 23 8 16 mark l (getD ws i 0) e ∙ code-zero (getD ws i 0) (present-at i k e))
+      at : (i : ℕ) → i < length ws → Dec (getD ws i 0 ≡ mark) → flatCode m mark (getD ws i 0) ≡ code 23 8 mark (layerOf 23 8 277 mark b ws) (getD ws i 0)
+      at i k (yes e) = flat-missing m mark (getD ws i 0) e ∙ me ∙ sym (code-missing 23 8 mark l (getD ws i 0) e)
+      at i k (no e) = flat-present m mark (getD ws i 0) e ∙ sym (code-present 23 8 mark l (getD ws i 0) e ∙ code-zero (getD ws i 0) (present-at i k e))

@@ -4,6 +4,7 @@ use mathlib.Core.Logic.{_≢_}
 use mathlib.Core.Bool.{true}
 use mathlib.Core.List.{List, map}
 use Prim.Native.Nat.{ℕ, _+_, _-_, _*_, _^_, _≤_, _<_, zero-le}
+use native.Mathlib.Nat.{mul-le-mul-right}
 use native.Mathlib.Omega.{arith}
 use lib.IntN.{subℕ}
 use lib.ListN.{length, getD}
@@ -11,12 +12,15 @@ use Rattle.meaning.specs.Readings.{size, magnitude, position}
 use Rattle.meaning.specs.Layers.{Summary, Spread, Layer, lastCode, holds, leastFrom, smallest, summary, span, layerOf, code}
 use Rattle.meaning.specs.Calls.{storedExponent}
 use Rattle.meaning.proofs.Packing.{Spans, summary-spans, holds-order, least-holds, least-least, singles-held}
+use Rattle.layer_width.specs.Width.{Width}
+use Rattle.layer_width.proofs.Steps.{steps-few}
+use Rattle.quick.specs.Coarse.{AllHeld}
 use Rattle.summary.specs.Summaries.{Packable}
 use Rattle.summary.proofs.Made.{Made, Spreads, spreads}
 use Rattle.codes.specs.Cut.{AllReady, layerBy}
 use Rattle.codes.proofs.Wide.{layer-sizes}
 
-module _ (mark : ℕ) (ws : List ℕ) (a z : ℕ) (p : Packable mark ws) (m : Made mark ws) (s : summary 23 8 mark ws ≡ Spread a z) where
+module _ (b : ℕ) (width : Width b) (mark : ℕ) (ws : List ℕ) (a z : ℕ) (p : Packable mark ws) (m : Made mark ws) (s : summary 23 8 mark ws ≡ Spread a z) where
   S : Spreads a z
   S = spreads mark ws a z m s
 
@@ -24,7 +28,7 @@ module _ (mark : ℕ) (ws : List ℕ) (a z : ℕ) (p : Packable mark ws) (m : Ma
   n = position 23 8 z - position 23 8 a
 
   abbrev e : ℕ
-  e = leastFrom 16 n 263 0
+  e = leastFrom b n 277 0
 
   between : (i : ℕ) → i < length ws → getD ws i 0 ≢ mark → (position 23 8 a ≤ position 23 8 (getD ws i 0)) × (position 23 8 (getD ws i 0) ≤ position 23 8 z)
   between i k q = subst (λ (x : Summary). Spans 23 8 x (position 23 8 (getD ws i 0))) s (summary-spans 23 8 mark ws i k q)
@@ -33,15 +37,17 @@ module _ (mark : ℕ) (ws : List ℕ) (a z : ℕ) (p : Packable mark ws) (m : Ma
   unfolding span
   spanned = ap (span 23 8) s
 
-  most : holds 16 n 263 ≡ true
-  most = subst (λ (x : ℕ). holds 16 x 263 ≡ true) spanned (singles-held mark ws p)
+  most : holds b n 277 ≡ true
+  most = subst (λ (x : ℕ). holds b x 277 ≡ true) spanned (singles-held mark b ws (width .low) p)
+
+  held-by : n ≤ lastCode b * 2 ^ e
+  held-by = holds-order b n e (least-holds b n 277 0 most)
 
   held : n ≤ 65534 * 2 ^ e
-  unfolding lastCode
-  held = holds-order 16 n e (least-holds 16 n 263 0 most)
+  held = omega (arith, held-by, mul-le-mul-right (2 ^ e) (steps-few b (width .high)))
 
-  pub few : e ≤ 263
-  few = least-least 16 n 263 0 263 zero-le most
+  pub few : e ≤ 277
+  few = least-least b n 277 0 277 zero-le most
 
   pub size-low : size 23 (magnitude 23 8 a) < 2 ^ (e + 41)
   size-low = layer-sizes a z a e (S .low) (S .high) (S .low) (S .differ) held (omega arith) (omega (arith, S .differ))
@@ -55,16 +61,19 @@ module _ (mark : ℕ) (ws : List ℕ) (a z : ℕ) (p : Packable mark ws) (m : Ma
         holds = omega (arith, held, between i k q);
       }
 
-  pub layer-is : layerBy a e ≡ layerOf 23 8 16 263 mark ws
-  unfolding layerOf smallest span
-  layer-is = ap (λ (x : Summary). record { reference = smallest x; exponent = leastFrom 16 (span 23 8 x) 263 0 }) (sym s)
+  pub all-within : AllHeld mark a e b ws
+  all-within i k q = omega (arith, held-by, between i k q)
 
-  pub reference-is : a ≡ layerOf 23 8 16 263 mark ws .reference
+  pub layer-is : layerBy b a e ≡ layerOf 23 8 277 mark b ws
+  unfolding layerOf smallest span
+  layer-is = ap (λ (x : Summary). record { width = b; reference = smallest x; exponent = leastFrom b (span 23 8 x) 277 0 }) (sym s)
+
+  pub reference-is : a ≡ layerOf 23 8 277 mark b ws .reference
   reference-is = ap (λ (l : Layer). l .reference) layer-is
 
-  pub stored-is : (x : ℕ) → x ≡ e → subℕ x 149 ≡ storedExponent (layerOf 23 8 16 263 mark ws)
+  pub stored-is : (x : ℕ) → x ≡ e → subℕ x 149 ≡ storedExponent (layerOf 23 8 277 mark b ws)
   unfolding storedExponent
   stored-is x q = ap (λ (y : ℕ). subℕ y 149) (q ∙ ap (λ (l : Layer). l .exponent) layer-is)
 
-  pub codes-are : (x : ℕ) → x ≡ e → map (code 23 8 16 mark (layerBy a x)) ws ≡ map (code 23 8 16 mark (layerOf 23 8 16 263 mark ws)) ws
-  codes-are x q = ap (λ (l : Layer). map (code 23 8 16 mark l) ws) (ap (layerBy a) q ∙ layer-is)
+  pub codes-are : (x : ℕ) → x ≡ e → map (code 23 8 mark (layerBy b a x)) ws ≡ map (code 23 8 mark (layerOf 23 8 277 mark b ws)) ws
+  codes-are x q = ap (λ (l : Layer). map (code 23 8 mark l) ws) (ap (layerBy b a) q ∙ layer-is)

@@ -9,8 +9,8 @@ use Rattle.meaning.specs.Calls.{storedExponent}
 use Rattle.layering.specs.declared.LayerRecord.{LayerRecord}
 
 -- the code where a layer has one value or none
-unfoldable pub flatCode : ℕ → ℕ → ℕ
-flatCode mark w = cond (eqb w mark) 65535 0
+unfoldable pub flatCode : ℕ → ℕ → ℕ → ℕ
+flatCode missing mark w = cond (eqb w mark) missing 0
 
 -- r is the one value of a summary, or +0 where it has none
 abbrev pub One : meaning.Summary → ℕ → Type 0

@@ -4,7 +4,7 @@ use mathlib.Core.Path.{_≡_, refl}
 use mathlib.Core.List.{[], _∷_}
 use Prim.Native.Nat.{ℕ}
 use lib.IntN.{pos, negℤ}
-use Rattle.meaning.proofs.CasesRows.{shave, set, halfshave, round, absolute, digits, after, answer, counting, packed, layer}
+use Rattle.meaning.proofs.CasesRows.{shave, set, halfshave, round, absolute, digits, after, answer, counting, packed, packedWide, layer}
 
 abbrev pi : ℕ
 pi = 0x40490FDB
@@ -38,7 +38,7 @@ pub record Marked : Type 0 where
       × (packed (0x00000000 ∷ 0x0000FFFF ∷ []) ≡ layer 0x00000000 (negℤ (pos 148)) (0 ∷ 32768 ∷ []))
 
 pub marked-cases : Marked
-unfolding after answer packed
+unfolding after answer packedWide
 marked-cases =
     record {
       P1 = refl;

@@ -15,7 +15,7 @@ use Rattle.meaning.specs.Questions
 use Rattle.meaning.specs.Calls
 use Rattle.meaning.specs.Calls.{Call, acceptedCalls, largestUnit, storedLayer}
 use Rattle.meaning.specs.Claim.{rounds, changesTail, oneKind}
-use Rattle.meaning.proofs.CasesRows.{shave, set, round, absolute, afterAll, after, packed, layer}
+use Rattle.meaning.proofs.CasesRows.{shave, set, round, absolute, afterAll, after, packed, packedWide, layer}
 
 -- how far a list of calls moves a single, and the largest unit that any of them has at it
 moved : List Call → ℕ → ℕ
@@ -47,10 +47,10 @@ pub record Beyond : Type 0 where
   largest-of-two : (largest (round 7 ∷ round 20 ∷ []) 0x40490FDB ≡ 2 ^ 143) × (largest (round 20 ∷ round 7 ∷ []) 0x40490FDB ≡ 2 ^ 143)
   -- Packing's half step dropped: 0.5 beside 0 and 65,534 gets the code 0 with the step 1, and lies half a step away; its own unit is far smaller.
   packs : packed (0x00000000 ∷ 0x477FFE00 ∷ 0x3F000000 ∷ []) ≡ layer 0x00000000 (pos 0) (0 ∷ 65534 ∷ 0 ∷ [])
-  half-step : ltb (largest (round 23 ∷ []) 0x3F000000) (distance (position 23 8 0x3F000000) (codeMeaning 23 8 (storedLayer 0x00000000 (pos 0)) 0)) ≡ true
+  half-step : ltb (largest (round 23 ∷ []) 0x3F000000) (distance (position 23 8 0x3F000000) (codeMeaning 23 8 (storedLayer 16 0x00000000 (pos 0)) 0)) ≡ true
 
 pub beyond : Beyond
-unfolding moved largest alike packed distance position codeMeaning storedLayer
+unfolding moved largest alike packedWide distance position codeMeaning storedLayer
 beyond =
     record {
       mixed = refl;

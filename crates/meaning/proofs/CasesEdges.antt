@@ -4,13 +4,13 @@ use mathlib.Core.Path.{_≡_, refl}
 use mathlib.Core.List.{List, [], _∷_}
 use Prim.Native.Nat.{ℕ, _+_, _^_}
 use lib.IntN.{ℤ, pos, negℤ}
-use lib.ListN.{length, take}
+use lib.ListN.{length, take, replicate}
 use Rattle.meaning.specs.Methods
 use Rattle.meaning.specs.Methods.{unit}
 use Rattle.meaning.specs.Layers.{Nothing, Flat, Spread}
 use Rattle.meaning.specs.Questions.{refused, accepted}
 use Rattle.meaning.specs.Calls.{Call, AfterPack, AfterUnpack, pack, unpack}
-use Rattle.meaning.proofs.CasesRows.{call, shave, set, groom, halfshave, round, absolute, digits, afterAll, after, answer, counting, loads, packed, layer, summed, unpacked, doubles}
+use Rattle.meaning.proofs.CasesRows.{call, shave, set, groom, halfshave, round, absolute, digits, afterAll, after, answer, counting, loads, packed, packedWide, layer, summed, unpacked, unpackedWide, doubles}
 
 -- what a list of calls leaves of a double; the mark is a NaN
 afterDouble : List Call → ℕ → List ℕ
@@ -22,17 +22,17 @@ singles : ℕ → List Call → List ℕ → List ℕ
 unfolding afterAll
 singles mark cs ws = afterAll 23 8 mark cs ws
 
--- singles packed into layers of L, from four codes, two references and two exponents before; and codes unpacked
+-- singles packed into two layers of L, from four codes, two references and two exponents before; and codes unpacked
 packs : ℕ → List ℕ → AfterPack
 unfolding afterAll
-packs L ws = pack 0x7CF00000 L ws (take (length ws) (7 ∷ 7 ∷ 7 ∷ 7 ∷ [])) (8 ∷ 8 ∷ []) (pos 9 ∷ pos 9 ∷ [])
+packs L ws = pack 0x7CF00000 L (16 ∷ 16 ∷ []) ws (take (length ws) (7 ∷ 7 ∷ 7 ∷ 7 ∷ [])) (8 ∷ 8 ∷ []) (pos 9 ∷ pos 9 ∷ [])
 
 abbrev leaves : List ℕ → List ℕ → List ℤ → AfterPack
 leaves cs rs es = record { answer = accepted tt; codes = cs; references = rs; exponents = es }
 
 unpacks : ℕ → ℕ → List ℕ → List ℕ → List ℤ → List ℕ → AfterUnpack
 unfolding afterAll
-unpacks mark L cs rs es ws = unpack mark L cs rs es ws
+unpacks mark L cs rs es ws = unpack mark L (replicate (length rs) 16) cs rs es ws
 
 abbrev pi : ℕ
 pi = 0x400921FB_54442D18
@@ -116,7 +116,7 @@ pub record Edges : Type 0 where
   digits-stays : (after (digits 7 ∷ []) 0x411FFFFF ≡ 0x411FFFFF) × (after (digits 7 ∷ []) 0x40800000 ≡ 0x40800001)
 
 pub edges : Edges
-unfolding afterDouble singles after answer packs unpacks unit loads packed summed unpacked
+unfolding afterDouble singles after answer packs unpacks unit loads packedWide summed unpackedWide
 edges =
     record {
       shave-double = refl;

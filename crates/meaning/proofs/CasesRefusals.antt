@@ -1,10 +1,11 @@
 -- The questions of document 01 as a table: each number by a smallest input, the order of each two neighbours by an input that both would refuse, and each
--- range at both ends and one beyond. 0 stands for an accepted call. Each row is proved by computing it.
+-- range at both ends and one beyond. 0 stands for an accepted call. Layers have the width 16; other widths, and the questions on them, are in CasesWidths.antt. Each
+-- row is proved by computing it.
 use mathlib.Core.Path.{_≡_, refl}
 use mathlib.Core.List.{[], _∷_}
 use Prim.Native.Nat.{ℕ}
 use lib.IntN.{ℤ, pos, negℤ}
-use Rattle.meaning.proofs.CasesRows.{settings, packing, unpacking}
+use Rattle.meaning.proofs.CasesRows.{settings, packing, packingWide, unpacking, unpackingWide}
 
 abbrev minus : ℕ → ℤ
 minus n = negℤ (pos n)
@@ -61,10 +62,10 @@ pub record Refusals : Type 0 where
   unpack-readings : (unpacking nan 1 (0 ∷ []) (0 ∷ []) (pos 0 ∷ []) 0 ≡ 5) × (unpacking nan 1 (0 ∷ []) (0 ∷ []) (pos 0 ∷ []) 2 ≡ 5)
   unpack-references : (unpacking nan 1 (0 ∷ []) [] (pos 0 ∷ []) 1 ≡ 5) × (unpacking nan 1 (0 ∷ []) (0 ∷ 0 ∷ []) (pos 0 ∷ []) 1 ≡ 5)
   unpack-exponents : (unpacking nan 1 (0 ∷ []) (0 ∷ []) [] 1 ≡ 5) × (unpacking nan 1 (0 ∷ []) (0 ∷ []) (pos 0 ∷ pos 0 ∷ []) 1 ≡ 5)
-  -- Unpack: is each R finite and each E in -149 to 114? No: 7.
+  -- Unpack: is each R finite and each E in -149 to 128? No: 7.
   unpack-infinite : unpacking nan 1 (0 ∷ []) (infinite ∷ []) (pos 0 ∷ []) 1 ≡ 7
   unpack-low : (unpacking nan 1 (0 ∷ []) (0 ∷ []) (minus 150 ∷ []) 1 ≡ 7) × (unpacking nan 1 (0 ∷ []) (0 ∷ []) (minus 149 ∷ []) 1 ≡ 0)
-  unpack-high : (unpacking nan 1 (0 ∷ []) (0 ∷ []) (pos 114 ∷ []) 1 ≡ 0) × (unpacking nan 1 (0 ∷ []) (0 ∷ []) (pos 115 ∷ []) 1 ≡ 7)
+  unpack-high : (unpacking nan 1 (0 ∷ []) (0 ∷ []) (pos 128 ∷ []) 1 ≡ 0) × (unpacking nan 1 (0 ∷ []) (0 ∷ []) (pos 129 ∷ []) 1 ≡ 7)
   -- Unpack: is the double mark a NaN? No: 8. It is asked also where no code is missing, and where there are no codes.
   unpack-mark : (unpacking 0 1 (0 ∷ []) (0 ∷ []) (pos 0 ∷ []) 1 ≡ 8) × (unpacking infiniteDouble 1 [] [] [] 0 ≡ 8)
   unpack-nans : (unpacking 0x7FF00000_00000001 1 [] [] [] 0 ≡ 0) × (unpacking 0xFFFFFFFF_FFFFFFFF 1 [] [] [] 0 ≡ 0)
@@ -75,7 +76,7 @@ pub record Refusals : Type 0 where
   unpack-7-8 : unpacking 0 1 (0 ∷ []) (infinite ∷ []) (pos 0 ∷ []) 1 ≡ 7
 
 pub refusals : Refusals
-unfolding settings packing unpacking
+unfolding settings packingWide unpackingWide
 refusals =
     record {
       known = refl;

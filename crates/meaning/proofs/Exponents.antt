@@ -1,4 +1,4 @@
--- E and its count from -149: each other's inverse on document 01's range, and in one order.
+-- E and its count from -149: each other's inverse on the documents' range, and in one order.
 use mathlib.Core.Path.{_≡_, refl, ap, _∙_}
 use mathlib.Core.Bool.{true}
 use Prim.Native.Nat.{ℕ, suc, _+_, _-_, _≤_, _<_}
@@ -7,7 +7,7 @@ use native.Mathlib.Omega.{arith}
 use borrow.Author.Tests.{lt-ltb, le-ltb, le-leb, leb-true}
 use lib.IntN.{ℤ, pos, negsuc, negℤ, subℕ}
 use lib.Signed.{leZ, ltZ}
-use Rattle.meaning.specs.Questions.{between, above}
+use Rattle.meaning.specs.Questions.{above, exponentInRange}
 
 low : (e : ℕ) → e < 149 → subℕ e 149 ≡ negsuc (149 - suc e)
 low e h = rw (lt-ltb e 149 h) refl
@@ -30,12 +30,12 @@ exponent-back (negsuc k) r =
     let l : k ≤ 148 = leb-true k 148 r in
     low (149 - suc k) (omega arith) ∙ ap negsuc (let e : 149 - suc (149 - suc k) ≡ k = omega arith in e)
 
-pub exponent-range : (e : ℕ) → e ≤ 263 → between (negℤ (pos 149)) (subℕ e 149) (pos 114) ≡ true
+pub exponent-range : (e : ℕ) → e ≤ 277 → exponentInRange (subℕ e 149) ≡ true
 exponent-range e l = go (decLt e 149)
   where
-    go : Dec (e < 149) → between (negℤ (pos 149)) (subℕ e 149) (pos 114) ≡ true
+    go : Dec (e < 149) → exponentInRange (subℕ e 149) ≡ true
     go (yes h) = rw (low e h, le-leb (149 - suc e) 148 (omega arith)) refl
-    go (no h) = rw (high e (omega arith), le-leb (e - 149) 114 (omega arith)) refl
+    go (no h) = rw (high e (omega arith), le-leb (e - 149) 128 (omega arith)) refl
 
 pub exponent-order : (e n : ℕ) → e < n → ltZ (subℕ e 149) (subℕ n 149) ≡ true
 exponent-order e n l = go (decLt e 149) (decLt n 149)

@@ -151,23 +151,23 @@ module _ (F X : ℕ) where
         no-place = λ mark q. none-both (beyond F X mark q);
       }
 
--- Layers of singles whose present readings are all finite: the step exponent holds the span and is the least that does; a code is the missing
--- one where the reading is missing, and at most 65,534 elsewhere.
-pub record LayerLaws (mark : ℕ) (ws : List ℕ) : Type 0 where
-  pub exponent-holds : holds 16 (span 23 8 (summary 23 8 mark ws)) (layerOf 23 8 16 263 mark ws .exponent) ≡ true
-  pub exponent-least : (e : ℕ) → holds 16 (span 23 8 (summary 23 8 mark ws)) e ≡ true → layerOf 23 8 16 263 mark ws .exponent ≤ e
-  pub codes-missing : (i : ℕ) → i < length ws → getD ws i 0 ≡ mark → code 23 8 16 mark (layerOf 23 8 16 263 mark ws) (getD ws i 0) ≡ 65535
-  pub codes-bounded : (i : ℕ) → i < length ws → getD ws i 0 ≢ mark → code 23 8 16 mark (layerOf 23 8 16 263 mark ws) (getD ws i 0) ≤ 65534
+-- Layers of singles whose present readings are all finite, of a width w of at least 2: the step exponent holds the span and is the least that does; a code is the missing
+-- one where the reading is missing, and at most 2^w - 2 elsewhere.
+pub record LayerLaws (mark w : ℕ) (ws : List ℕ) : Type 0 where
+  pub exponent-holds : holds w (span 23 8 (summary 23 8 mark ws)) (layerOf 23 8 277 mark w ws .exponent) ≡ true
+  pub exponent-least : (e : ℕ) → holds w (span 23 8 (summary 23 8 mark ws)) e ≡ true → layerOf 23 8 277 mark w ws .exponent ≤ e
+  pub codes-missing : (i : ℕ) → i < length ws → getD ws i 0 ≡ mark → code 23 8 mark (layerOf 23 8 277 mark w ws) (getD ws i 0) ≡ 2 ^ w - 1
+  pub codes-bounded : (i : ℕ) → i < length ws → getD ws i 0 ≢ mark → code 23 8 mark (layerOf 23 8 277 mark w ws) (getD ws i 0) ≤ 2 ^ w - 2
 
-pub layer-laws : (mark : ℕ) (ws : List ℕ) → Packable 23 8 mark ws → LayerLaws mark ws
-unfolding lastCode missingCode
-layer-laws mark ws p =
+pub layer-laws : (mark w : ℕ) (ws : List ℕ) → 2 ≤ w → Packable 23 8 mark ws → LayerLaws mark w ws
+unfolding lastCode missingCode layerOf
+layer-laws mark w ws b p =
     record {
-      exponent-holds = layer-holds 23 8 16 263 mark ws held;
-      exponent-least = layer-least 23 8 16 263 mark ws held;
-      codes-missing = λ i h e. layer-codes 23 8 16 263 mark ws held i h .missing-code e;
-      codes-bounded = λ i h e. layer-codes 23 8 16 263 mark ws held i h .other-code e;
+      exponent-holds = layer-holds 23 8 277 mark w ws held;
+      exponent-least = layer-least 23 8 277 mark w ws held;
+      codes-missing = λ i h e. layer-codes 23 8 277 mark w ws held i h .missing-code e;
+      codes-bounded = λ i h e. layer-codes 23 8 277 mark w ws held i h .other-code e;
     }
   where
-    held : holds 16 (span 23 8 (summary 23 8 mark ws)) 263 ≡ true
-    held = singles-held mark ws p
+    held : holds w (span 23 8 (summary 23 8 mark ws)) 277 ≡ true
+    held = singles-held mark w ws b p

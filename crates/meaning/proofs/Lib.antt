@@ -7,6 +7,7 @@ pub mod CasesMoves
 pub mod CasesRefusals
 pub mod CasesRows
 pub mod CasesTurns
+pub mod CasesWidths
 pub mod Powers
 pub mod Sizes
 pub mod Patterns
@@ -30,3 +31,4 @@ pub mod Exponents
 pub mod Layering
 pub mod Packed
 pub mod Loader
+pub mod OldForm

@@ -3,7 +3,7 @@
 use mathlib.Core.Path.{_≡_, refl, sym, ap, _∙_, subst}
 use mathlib.Core.Logic.{_≢_}
 use mathlib.Core.Bool.{Bool, true, false, true≢false, _&&_, _||_}
-use mathlib.Core.List.{List, [], _∷_, map, map-map}
+use mathlib.Core.List.{List, [], _∷_, map, zipWith}
 use Prim.Native.Nat.{ℕ, zero, suc, _+_, _-_, _*_, _/_, _%_, _^_, _≤_, _<_}
 use native.Mathlib.Nat.{div-add-mod', mod-lt, div-lt-iff-lt-mul, le-refl, mul-le-mul-right, mul-le-mul-left, not-suc-le-zero, le-of-suc-le-suc, lt-of-lt-of-le}
 use native.Mathlib.Decide.{decLt, ℕ-discrete}
@@ -17,16 +17,16 @@ use lib.Pow.{pow-mono}
 use lib.Seq.{getD-take, getD-drop, length-take-le}
 use Rattle.meaning.specs.Readings.{spacing, size, sign, magnitude, infinity, finite, magnitudeOf, origin, position, distance, missing}
 use Rattle.meaning.specs.Methods.{Method, tail, round, absolute, digits, unit, trimmable}
-use Rattle.meaning.specs.Layers.{Layer, missingCode, lastCode, holds, span, summary, runs, layers, layerOf, code, codeMeaning, packedLayers, packedCodes}
-use Rattle.meaning.specs.Questions.{Outcome, accepted, ask, all, above, layerQuestions, packQuestions}
+use Rattle.meaning.specs.Layers.{Layer, missingCode, holds, span, summary, runs, layers, layerOf, code, codeMeaning, packedLayers, packedCodes}
+use Rattle.meaning.specs.Questions.{Outcome, accepted, ask, all, above, lengthInRange, whole, widthInRange, layerQuestions, packQuestions}
 use Rattle.meaning.specs.Calls.{Call, AfterPack, leaving, inTurn, acceptedCalls, largestUnit, pack, storedExponent, storedLayer}
-use Rattle.meaning.specs.Claim.{oneKind, Kept, Coded, LeastHolding, PackClaim, Demand3}
+use Rattle.meaning.specs.Claim.{oneKind, Kept, Coded, LeastHolding, layerAt, PackClaim, Demand3}
 use Rattle.meaning.proofs.Sizes.{spacing-mono}
 use Rattle.meaning.proofs.Patterns.{finite-below, size-below, position-plus, position-minus, magnitudeOf-size, magnitudeOf-mono}
 use Rattle.meaning.proofs.Accepted.{and-first, and-second}
 use Rattle.meaning.proofs.OneReading.{is-trimmable}
-use Rattle.meaning.proofs.Packing.{Packable, CodedIn, layer-holds, layer-least, layer-codes, singles-held}
-use Rattle.meaning.proofs.Layering.{map-at, map-runs, flat-runs, runs-length, flat-length}
+use Rattle.meaning.proofs.Packing.{Packable, CodedIn, layer-holds, layer-least, layer-codes, singles-held, codes-apart}
+use Rattle.meaning.proofs.Layering.{map-at, zip-at, zip-length, flat-at, flat-length}
 use Rattle.meaning.proofs.Exponents.{count-back, exponent-back, exponent-range, exponent-order}
 use Rattle.meaning.proofs.Claim.{list-claim}
 
@@ -37,7 +37,7 @@ unfolding ask
 ask-yes true n rest a e = (refl, e)
 ask-yes false n rest a e = let z : _≡_ {A = ℕ} 0 1 = cc in absurd (omega arith)
 
-all-at : (f : ℕ → Bool) (ws : List ℕ) → all f ws ≡ true → (i : ℕ) → i < length ws → f (getD ws i 0) ≡ true
+pub all-at : (f : ℕ → Bool) (ws : List ℕ) → all f ws ≡ true → (i : ℕ) → i < length ws → f (getD ws i 0) ≡ true
 unfolding all
 all-at f [] e i h = absurd (not-suc-le-zero h)
 all-at f (w ∷ ws) e zero h = and-first (f w) (all f ws) e
@@ -47,23 +47,31 @@ or-first : (a b : Bool) → a || b ≡ true → b ≡ false → a ≡ true
 or-first true b e f = refl
 or-first false b e f = absurd (true≢false (sym e ∙ f))
 
-pub record Asked (mark L : ℕ) (vs : List ℕ) : Type 0 where
+pub record Asked (mark L : ℕ) (widths vs : List ℕ) : Type 0 where
   pub some : 1 ≤ L
   pub most : L ≤ 65536
   pub whole : length vs % L ≡ 0
+  pub one-width : length widths ≡ length vs / L
+  pub widths-known : all widthInRange widths ≡ true
   pub packable : Packable 23 8 mark vs
 
-pub asked : (mark L : ℕ) (vs : List ℕ) (c r e : ℕ) → packQuestions mark L vs c r e ≡ accepted tt → Asked mark L vs
+pub asked : (mark L : ℕ) (widths vs : List ℕ) (c r e : ℕ) → packQuestions mark L widths vs c r e ≡ accepted tt → Asked mark L widths vs
 unfolding packQuestions layerQuestions missing
-asked mark L vs c r e h =
-    let q3 = ask-yes (leb 1 L && leb L 65536) 3 _ tt h in
-    let q4 = ask-yes (eqb (length vs % L) 0) 4 _ tt (q3 .1) in
-    let q5 = ask-yes (eqb c (length vs) && eqb r (length vs / L) && eqb e (length vs / L)) 5 _ tt (q4 .1) in
-    let q6 = ask-yes (all (λ w. finite 23 8 w || eqb w mark) vs) 6 _ tt (q5 .1) in
+asked mark L widths vs c r e h =
+    let q3 = ask-yes (lengthInRange L) 3 _ tt h in
+    let q4 = ask-yes (whole (length vs) L) 4 _ tt (q3 .1) in
+    let q5 = ask-yes (eqb c (length vs) && eqb (length widths) (length vs / L) && all (λ k. eqb k (length vs / L)) (r ∷ e ∷ [])) 5 _ tt (q4 .1) in
+    let q11 = ask-yes (all widthInRange widths) 11 _ tt (q5 .1) in
+    let q6 = ask-yes (all (λ w. finite 23 8 w || eqb w mark) vs) 6 _ tt (q11 .1) in
     record {
       some = leb-true 1 L (and-first (leb 1 L) (leb L 65536) (q3 .0));
       most = leb-true L 65536 (and-second (leb 1 L) (leb L 65536) (q3 .0));
       whole = eqb-true (length vs % L) 0 (q4 .0);
+      one-width =
+          eqb-true (length widths) (length vs / L)
+          (and-second (eqb c (length vs)) (eqb (length widths) (length vs / L))
+          (and-first (eqb c (length vs) && eqb (length widths) (length vs / L)) (all (λ k. eqb k (length vs / L)) (r ∷ e ∷ [])) (q5 .0)));
+      widths-known = q11 .0;
       packable = λ i l p.
           finite-below 23 8 (getD vs i 0)
           (or-first (finite 23 8 (getD vs i 0)) (eqb (getD vs i 0) mark) (all-at (λ w. finite 23 8 w || eqb w mark) vs (q6 .0) i l) (ne-eqb (getD vs i 0) mark p));
@@ -71,34 +79,37 @@ asked mark L vs c r e h =
 
 -- ---- the layer of a place, as it was packed and as it is stored
 
-stored-layer : (l : Layer) → storedLayer (l .reference) (storedExponent l) ≡ l
+stored-layer : (l : Layer) → storedLayer (l .width) (l .reference) (storedExponent l) ≡ l
 unfolding storedLayer storedExponent
-stored-layer l = ap (λ (e : ℕ). record { reference = l .reference; exponent = e }) (count-back (l .exponent))
+stored-layer l = ap (λ (e : ℕ). record { width = l .width; reference = l .reference; exponent = e }) (count-back (l .exponent))
 
-module _ (mark L : ℕ) (vs codes references : List ℕ) (exponents : List ℤ) (yes-answer : pack mark L vs codes references exponents .answer ≡ accepted tt) where
+module _ (mark L : ℕ) (widths vs codes references : List ℕ) (exponents : List ℤ) (yes-answer : pack mark L widths vs codes references exponents .answer ≡ accepted tt) where
   abbrev left : AfterPack
-  left = pack mark L vs codes references exponents
+  left = pack mark L widths vs codes references exponents
 
-  -- layer j of the readings, and its reference and exponent
+  -- layer j of the readings, its width, and the layer that it makes
   abbrev part : ℕ → List ℕ
   part j = take L (drop (j * L) vs)
 
+  abbrev width : ℕ → ℕ
+  width j = getD widths j 0
+
   abbrev packed : ℕ → Layer
-  packed j = layerOf 23 8 16 263 mark (take L (drop (j * L) vs))
+  packed j = layerOf 23 8 277 mark (getD widths j 0) (take L (drop (j * L) vs))
 
-  pub all-asked : Asked mark L vs
+  pub all-asked : Asked mark L widths vs
   unfolding pack
-  all-asked = asked mark L vs (length codes) (length references) (length exponents) yes-answer
+  all-asked = asked mark L widths vs (length codes) (length references) (length exponents) yes-answer
 
-  codes-are : left .codes ≡ packedCodes 23 8 16 263 mark L vs
+  codes-are : left .codes ≡ packedCodes 23 8 277 mark L widths vs
   unfolding pack leaving
   codes-are = rw yes-answer refl
 
-  references-are : left .references ≡ map (λ l. l .reference) (packedLayers 23 8 16 263 mark L vs)
+  references-are : left .references ≡ map (λ l. l .reference) (packedLayers 23 8 277 mark L widths vs)
   unfolding pack leaving
   references-are = rw yes-answer refl
 
-  exponents-are : left .exponents ≡ map storedExponent (packedLayers 23 8 16 263 mark L vs)
+  exponents-are : left .exponents ≡ map storedExponent (packedLayers 23 8 277 mark L widths vs)
   unfolding pack leaving
   exponents-are = rw yes-answer refl
 
@@ -107,15 +118,26 @@ module _ (mark L : ℕ) (vs codes references : List ℕ) (exponents : List ℤ) 
 
   module _ (j : ℕ) (h : j < length vs / L) where
     -- one thing for each layer, found at its place
-    layer-at : {A : Type 0} (f : Layer → A) (z : A) → getD (map f (packedLayers 23 8 16 263 mark L vs)) j z ≡ f (packed j)
+    layer-at : {A : Type 0} (f : Layer → A) (z : A) → getD (map f (packedLayers 23 8 277 mark L widths vs)) j z ≡ f (packed j)
     unfolding packedLayers layers
     layer-at f z =
-        ap (λ (l : List _). getD l j z) (map-map f (layerOf 23 8 16 263 mark) (layers L vs))
-        ∙ map-runs L (λ part. f (layerOf 23 8 16 263 mark part)) z (length vs / L) j vs h
+        map-at f none z (zipWith (layerOf 23 8 277 mark) widths (runs L (length vs / L) vs)) j
+        (rw (zip-length L 0 (layerOf 23 8 277 mark) (length vs / L) widths vs (all-asked .one-width)) h)
+        ∙ ap f (zip-at L 0 (layerOf 23 8 277 mark) none (length vs / L) j widths vs (all-asked .one-width) h)
+      where
+        none : Layer
+        none = record { width = 0; reference = 0; exponent = 0 }
 
-    pub stored-at : storedLayer (getD (left .references) j 0) (getD (left .exponents) j (pos 0)) ≡ packed j
+    pub stored-at : layerAt widths (left .references) (left .exponents) j ≡ packed j
+    unfolding layerOf
     stored-at =
         rw (references-are, exponents-are, layer-at (λ l. l .reference) 0, layer-at storedExponent (pos 0)) (stored-layer (packed j))
+
+    -- its width is at least 2
+    width-low : 2 ≤ width j
+    width-low =
+        leb-true 2 (width j)
+        (and-first (leb 2 (width j)) (leb (width j) 16) (all-at widthInRange widths (all-asked .widths-known) j (rw (all-asked .one-width) h)))
 
     pub room : j * L + L ≤ length vs
     room = omega (arith, in-layers, mul-le-mul-right L h)
@@ -131,39 +153,44 @@ module _ (mark L : ℕ) (vs codes references : List ℕ) (exponents : List ℤ) 
         let l : i < L = omega (arith, part-length) in
         rw (part-at i l) (all-asked .packable (j * L + i) (omega (arith, room)) (λ e. p (part-at i l ∙ e)))
 
-    part-held : holds 16 (span 23 8 (summary 23 8 mark (part j))) 263 ≡ true
-    part-held = singles-held mark (part j) part-packable
+    width-packed : 2 ≤ packed j .width
+    unfolding layerOf
+    width-packed = width-low
 
-    code-at : (i : ℕ) → i < L → getD (left .codes) (j * L + i) 0 ≡ code 23 8 16 mark (packed j) (getD (part j) i 0)
+    part-held : holds (width j) (span 23 8 (summary 23 8 mark (part j))) 277 ≡ true
+    part-held = singles-held mark (width j) (part j) width-low part-packable
+
+    code-at : (i : ℕ) → i < L → getD (left .codes) (j * L + i) 0 ≡ code 23 8 mark (packed j) (getD (part j) i 0)
     unfolding packedCodes layers
     code-at i k =
         ap (λ (l : List ℕ). getD l (j * L + i) 0) codes-are
-        ∙ flat-runs L (λ layer. map (code 23 8 16 mark (layerOf 23 8 16 263 mark layer)) layer) (λ l. length-map l (code 23 8 16 mark (layerOf 23 8 16 263 mark l)))
-        (length vs / L) j i vs (omega (arith, in-layers)) h k
-        ∙ map-at (code 23 8 16 mark (packed j)) 0 0 (part j) i (omega (arith, part-length))
+        ∙ flat-at L 0 (λ w layer. map (code 23 8 mark (layerOf 23 8 277 mark w layer)) layer) (λ w l. length-map l (code 23 8 mark (layerOf 23 8 277 mark w l)))
+        (length vs / L) j i widths vs (all-asked .one-width) (omega (arith, in-layers)) h k
+        ∙ map-at (code 23 8 mark (packed j)) 0 0 (part j) i (omega (arith, part-length))
 
     -- what a place of the layer got
-    pub coded-at : (i : ℕ) → i < L → CodedIn 23 8 16 mark (layerOf 23 8 16 263 mark (take L (drop (j * L) vs))) (getD vs (j * L + i) 0) (getD (left .codes) (j * L + i) 0)
+    pub coded-at : (i : ℕ) → i < L
+        → CodedIn 23 8 mark (layerOf 23 8 277 mark (getD widths j 0) (take L (drop (j * L) vs))) (getD vs (j * L + i) 0) (getD (left .codes) (j * L + i) 0)
     coded-at i k =
-        rw (code-at i k, ← part-at i k) (layer-codes 23 8 16 263 mark (part j) part-held i (omega (arith, part-length)))
+        rw (code-at i k, ← part-at i k) (layer-codes 23 8 277 mark (width j) (part j) part-held i (omega (arith, part-length)))
 
     exponent-at : getD (left .exponents) j (pos 0) ≡ storedExponent (packed j)
     exponent-at = rw (exponents-are) (layer-at storedExponent (pos 0))
 
-    least-at : LeastHolding (span 23 8 (summary 23 8 mark (part j))) (getD (left .exponents) j (pos 0))
+    least-at : LeastHolding (getD widths j 0) (span 23 8 (summary 23 8 mark (part j))) (getD (left .exponents) j (pos 0))
     unfolding storedExponent
     least-at =
         rw exponent-at
         (record {
-          in-range = exponent-range (packed j .exponent) (layer-least 23 8 16 263 mark (part j) part-held 263 part-held);
-          itself = rw (count-back (packed j .exponent)) (layer-holds 23 8 16 263 mark (part j) part-held);
-          others-larger = λ d r k n. larger d (and-first (leZ (negℤ (pos 149)) d) (leZ d (pos 114)) r) k n;
+          in-range = exponent-range (packed j .exponent) (layer-least 23 8 277 mark (width j) (part j) part-held 277 part-held);
+          itself = rw (count-back (packed j .exponent)) (layer-holds 23 8 277 mark (width j) (part j) part-held);
+          others-larger = λ d r k n. larger d (and-first (leZ (negℤ (pos 149)) d) (leZ d (pos 128)) r) k n;
         })
       where
-        larger : (d : ℤ) → leZ (negℤ (pos 149)) d ≡ true → holds 16 (span 23 8 (summary 23 8 mark (part j))) (above 149 d) ≡ true → d ≢ subℕ (packed j .exponent) 149
+        larger : (d : ℤ) → leZ (negℤ (pos 149)) d ≡ true → holds (width j) (span 23 8 (summary 23 8 mark (part j))) (above 149 d) ≡ true → d ≢ subℕ (packed j .exponent) 149
             → ltZ (subℕ (packed j .exponent) 149) d ≡ true
         larger d r k n =
-            let l : packed j .exponent ≤ above 149 d = layer-least 23 8 16 263 mark (part j) part-held (above 149 d) k in
+            let l : packed j .exponent ≤ above 149 d = layer-least 23 8 277 mark (width j) (part j) part-held (above 149 d) k in
             let o : above 149 d ≢ packed j .exponent = λ e. n (sym (exponent-back d r) ∙ ap (λ (x : ℕ). subℕ x 149) e) in
             subst (λ (x : ℤ). ltZ (subℕ (packed j .exponent) 149) x ≡ true) (exponent-back d r) (exponent-order (packed j .exponent) (above 149 d) (omega arith))
 
@@ -207,7 +234,7 @@ magnitude-bound v p g f h =
 
 -- ---- one place, from the original to its code
 
-module _ (mark : ℕ) (xs : List Method) (l : Layer) (w v c : ℕ) (k : Kept 23 8 mark xs w v) (r : CodedIn 23 8 16 mark l v c) (f : v ≢ mark → magnitude 23 8 v < infinity 23 8) where
+module _ (mark : ℕ) (xs : List Method) (l : Layer) (w v c : ℕ) (k : Kept 23 8 mark xs w v) (b : 2 ≤ l .width) (r : CodedIn 23 8 mark l v c) (f : v ≢ mark → magnitude 23 8 v < infinity 23 8) where
   pub trimmed-one : w ≢ mark → trimmable 23 8 mark w ≡ true
   trimmed-one p = go (decLt (magnitude 23 8 w) (infinity 23 8)) (trimmable 23 8 mark w) refl
     where
@@ -224,18 +251,11 @@ module _ (mark : ℕ) (xs : List Method) (l : Layer) (w v c : ℕ) (k : Kept 23 
   unfolding distance
   further p u h = omega (arith, r .half-step (still-here p))
 
-  code-of : w ≢ mark → c ≤ 65534
-  unfolding lastCode
-  code-of p = r .other-code (still-here p)
-
-  code-missing : w ≡ mark → c ≡ 65535
-  unfolding missingCode
-  code-missing p = r .missing-code (k .mark-stays .1 p)
-
   pub coded : Coded mark xs w l c
   coded =
       record {
-        missing-code = (λ e. back e (ℕ-discrete w mark), code-missing);
+        missing-code = (λ e. back e (ℕ-discrete w mark), λ p. r .missing-code (k .mark-stays .1 p));
+        in-width = kept (ℕ-discrete v mark);
         near = λ p. further p (largestUnit 23 xs (magnitude 23 8 w)) (k .near (trimmed-one p));
         near-left = λ p.
             further p (largestUnit 23 xs (magnitudeOf 23 8 (distance (codeMeaning 23 8 l c) (origin 23 8) + 2 ^ l .exponent / 2)))
@@ -244,62 +264,68 @@ module _ (mark : ℕ) (xs : List Method) (l : Layer) (w v c : ℕ) (k : Kept 23 
             (magnitude-bound v (codeMeaning 23 8 l c) (2 ^ l .exponent) (f (still-here p)) (r .half-step (still-here p)))));
       }
     where
-      back : c ≡ 65535 → Dec (w ≡ mark) → w ≡ mark
+      kept : Dec (v ≡ mark) → c ≤ missingCode (l .width)
+      kept (yes e) = omega (arith, r .missing-code e)
+      kept (no e) = omega (arith, r .other-code e, codes-apart (l .width) (omega arith))
+
+      back : c ≡ missingCode (l .width) → Dec (w ≡ mark) → w ≡ mark
       back e (yes p) = p
-      back e (no p) = absurd (omega (arith, e, code-of p))
+      back e (no p) = absurd (omega (arith, e, r .other-code (still-here p), codes-apart (l .width) (omega arith)))
 
 -- ---- the whole
 
-module _ (cs : List Call) (mark : ℕ) (ws : List ℕ) (some : 0 < length (acceptedCalls 23 8 cs)) (kind : oneKind (acceptedCalls 23 8 cs) ≡ true) (L : ℕ) (codes references : List ℕ) (exponents : List ℤ) where
+module _ (cs : List Call) (mark : ℕ) (ws : List ℕ) (some : 0 < length (acceptedCalls 23 8 cs)) (kind : oneKind (acceptedCalls 23 8 cs) ≡ true) (L : ℕ) (widths codes references : List ℕ) (exponents : List ℤ) where
   abbrev vs : List ℕ
   vs = inTurn 23 8 cs mark ws
 
-  pub pack-claim : pack mark L (inTurn 23 8 cs mark ws) codes references exponents .answer ≡ accepted tt
-      → PackClaim cs mark ws L (pack mark L (inTurn 23 8 cs mark ws) codes references exponents)
+  pub pack-claim : pack mark L widths (inTurn 23 8 cs mark ws) codes references exponents .answer ≡ accepted tt
+      → PackClaim cs mark ws L widths (pack mark L widths (inTurn 23 8 cs mark ws) codes references exponents)
   unfolding packedCodes packedLayers layers
   pack-claim yes-answer =
       record {
+        widths-long = a .one-width ∙ ap (λ (x : ℕ). x / L) same;
         codes-long =
-            ap length (codes-are mark L vs codes references exponents yes-answer)
-            ∙ flat-length L (λ layer. map (code 23 8 16 mark (layerOf 23 8 16 263 mark layer)) layer) (λ l. length-map l (code 23 8 16 mark (layerOf 23 8 16 263 mark l))) (length vs / L) vs (omega (arith, full))
+            ap length (codes-are mark L widths vs codes references exponents yes-answer)
+            ∙ flat-length L 0 (λ w layer. map (code 23 8 mark (layerOf 23 8 277 mark w layer)) layer) (λ w l. length-map l (code 23 8 mark (layerOf 23 8 277 mark w l)))
+            (length vs / L) widths vs (a .one-width) (omega (arith, full))
             ∙ full ∙ same;
-        references-long = ap length (references-are mark L vs codes references exponents yes-answer) ∙ count (λ l. l .reference);
-        exponents-long = ap length (exponents-are mark L vs codes references exponents yes-answer) ∙ count storedExponent;
+        references-long = ap length (references-are mark L widths vs codes references exponents yes-answer) ∙ count (λ l. l .reference);
+        exponents-long = ap length (exponents-are mark L widths vs codes references exponents yes-answer) ∙ count storedExponent;
         each-code = λ i h. at i h;
-        each-layer = λ j h. least-at mark L vs codes references exponents yes-answer j (rw (← same) at h);
+        each-layer = λ j h. least-at mark L widths vs codes references exponents yes-answer j (rw (← same) at h);
       }
     where
       same : length vs ≡ length ws
       same = list-claim 23 8 cs mark ws .as-long
 
+      a : Asked mark L widths vs
+      a = all-asked mark L widths vs codes references exponents yes-answer
+
       full : length vs / L * L ≡ length vs
-      full = in-layers mark L vs codes references exponents yes-answer
+      full = in-layers mark L widths vs codes references exponents yes-answer
 
-      count : {A : Type 0} (f : Layer → A) → length (map f (map (layerOf 23 8 16 263 mark) (runs L (length vs / L) vs))) ≡ length ws / L
+      count : {A : Type 0} (f : Layer → A) → length (map f (zipWith (layerOf 23 8 277 mark) widths (runs L (length vs / L) vs))) ≡ length ws / L
       count f =
-          length-map (map (layerOf 23 8 16 263 mark) (runs L (length vs / L) vs)) f ∙ length-map (runs L (length vs / L) vs) (layerOf 23 8 16 263 mark)
-          ∙ runs-length L (length vs / L) vs ∙ ap (λ (x : ℕ). x / L) same
-
-      a : Asked mark L vs
-      a = all-asked mark L vs codes references exponents yes-answer
+          length-map (zipWith (layerOf 23 8 277 mark) widths (runs L (length vs / L) vs)) f
+          ∙ zip-length L 0 (layerOf 23 8 277 mark) (length vs / L) widths vs (a .one-width) ∙ ap (λ (x : ℕ). x / L) same
 
       p : AfterPack
-      p = pack mark L vs codes references exponents
+      p = pack mark L widths vs codes references exponents
 
       -- place i of layer j
       in-layer : (j i : ℕ) → j < length vs / L → i < L
-          → Coded mark (acceptedCalls 23 8 cs) (getD ws (j * L + i) 0) (storedLayer (getD (p .references) j 0) (getD (p .exponents) j (pos 0))) (getD (p .codes) (j * L + i) 0)
+          → Coded mark (acceptedCalls 23 8 cs) (getD ws (j * L + i) 0) (layerAt widths (p .references) (p .exponents) j) (getD (p .codes) (j * L + i) 0)
       in-layer j i h k =
-          let b : j * L + i < length vs = omega (arith, room mark L vs codes references exponents yes-answer j h) in
-          rw (stored-at mark L vs codes references exponents yes-answer j h)
-          (coded mark (acceptedCalls 23 8 cs) (packed mark L vs codes references exponents yes-answer j) (getD ws (j * L + i) 0) (getD vs (j * L + i) 0) (getD (p .codes) (j * L + i) 0)
-          (list-claim 23 8 cs mark ws .each-place some kind (j * L + i) (omega (arith, same)))
-          (coded-at mark L vs codes references exponents yes-answer j h i k) (a .packable (j * L + i) b))
+          let b : j * L + i < length vs = omega (arith, room mark L widths vs codes references exponents yes-answer j h) in
+          rw (stored-at mark L widths vs codes references exponents yes-answer j h)
+          (coded mark (acceptedCalls 23 8 cs) (packed mark L widths vs codes references exponents yes-answer j) (getD ws (j * L + i) 0) (getD vs (j * L + i) 0) (getD (p .codes) (j * L + i) 0)
+          (list-claim 23 8 cs mark ws .each-place some kind (j * L + i) (omega (arith, same))) (width-packed mark L widths vs codes references exponents yes-answer j h)
+          (coded-at mark L widths vs codes references exponents yes-answer j h i k) (a .packable (j * L + i) b))
 
       at : (i : ℕ) → i < length ws
-          → Coded mark (acceptedCalls 23 8 cs) (getD ws i 0) (storedLayer (getD (p .references) (i / L) 0) (getD (p .exponents) (i / L) (pos 0))) (getD (p .codes) i 0)
+          → Coded mark (acceptedCalls 23 8 cs) (getD ws i 0) (layerAt widths (p .references) (p .exponents) (i / L)) (getD (p .codes) i 0)
       at i h =
-          subst (λ (x : ℕ). Coded mark (acceptedCalls 23 8 cs) (getD ws x 0) (storedLayer (getD (p .references) (i / L) 0) (getD (p .exponents) (i / L) (pos 0))) (getD (p .codes) x 0))
+          subst (λ (x : ℕ). Coded mark (acceptedCalls 23 8 cs) (getD ws x 0) (layerAt widths (p .references) (p .exponents) (i / L)) (getD (p .codes) x 0))
           (div-add-mod' i L)
           (in-layer (i / L) (i % L) (div-lt-iff-lt-mul {k = L} {x = i} {y = length vs / L} (a .some) .1 (omega (arith, full, same))) (mod-lt i (a .some)))
 

@@ -1,17 +1,16 @@
 -- One layer: its summary spans every present reading, its step exponent is the least that holds the span, and so every code is at most the last one and stands
 -- for a value within half a step.
-use mathlib.Core.Path.{_≡_, refl, sym, ap, _∙_}
+use mathlib.Core.Path.{_≡_, refl, sym, ap, _∙_, subst}
 use mathlib.Core.Logic.{_≢_}
 use mathlib.Core.Bool.{Bool, true, false, true≢false}
 use mathlib.Core.List.{List, [], _∷_}
 use Prim.Native.Nat.{ℕ, zero, suc, min, max, _+_, _-_, _*_, _^_, _≤_, _<_, zero-le, suc-le-suc}
-use native.Mathlib.Nat.{le-trans, zero-add, add-zero, add-suc, suc-add, not-suc-le-zero, le-of-suc-le-suc, min-eq-left, min-eq-right, max-eq-left, max-eq-right, mod-eq-of-lt, le-of-lt}
+use native.Mathlib.Nat.{le-trans, zero-add, add-zero, add-suc, suc-add, not-suc-le-zero, le-of-suc-le-suc, min-eq-left, min-eq-right, max-eq-left, max-eq-right, mod-eq-of-lt, le-of-lt, mul-le-mul-right}
 use native.Mathlib.Decide.{decLe, ℕ-discrete}
 use native.Mathlib.Omega.{arith}
 use borrow.Author.Tests.{eq-eqb, ne-eqb, le-leb, lt-leb, leb-true}
-use lib.Dec.{lit≤}
 use lib.ListN.{length, getD}
-use lib.Pow.{pow-pos}
+use lib.Pow.{pow-pos, pow-mono}
 use Rattle.meaning.specs.Readings.{exponentField, fraction, size, sign, magnitude, infinity, origin, position, distance, missing}
 use Rattle.meaning.specs.Methods.{nearest}
 use Rattle.meaning.specs.Layers.{Summary, Nothing, Flat, Spread, Layer, missingCode, lastCode, holds, leastFrom, plusZero, smaller, larger, widened, summary, smallest, span, layerOf, code, codeMeaning}
@@ -26,7 +25,7 @@ module _ (b n : ℕ) where
   unfolding holds
   holds-order e h = leb-true n (lastCode b * 2 ^ e) h
 
-  order-holds : (e : ℕ) → n ≤ lastCode b * 2 ^ e → holds b n e ≡ true
+  pub order-holds : (e : ℕ) → n ≤ lastCode b * 2 ^ e → holds b n e ≡ true
   unfolding holds
   order-holds e h = le-leb n (lastCode b * 2 ^ e) h
 
@@ -211,52 +210,52 @@ module _ (F X : ℕ) where
 
   -- ---- the codes of a layer
 
-  pub code-missing : (b mark : ℕ) (l : Layer) (w : ℕ) → w ≡ mark → code F X b mark l w ≡ missingCode b
+  pub code-missing : (mark : ℕ) (l : Layer) (w : ℕ) → w ≡ mark → code F X mark l w ≡ missingCode (l .width)
   unfolding code missing
-  code-missing b mark l w e = rw (eq-eqb w mark e) refl
+  code-missing mark l w e = rw (eq-eqb w mark e) refl
 
-  pub code-present : (b mark : ℕ) (l : Layer) (w : ℕ) → w ≢ mark → code F X b mark l w ≡ nearest (position F X w - position F X (l .reference)) (2 ^ l .exponent)
+  pub code-present : (mark : ℕ) (l : Layer) (w : ℕ) → w ≢ mark → code F X mark l w ≡ nearest (position F X w - position F X (l .reference)) (2 ^ l .exponent)
   unfolding code missing
-  code-present b mark l w e = rw (ne-eqb w mark e) refl
+  code-present mark l w e = rw (ne-eqb w mark e) refl
 
   -- what packing promises of a reading w of a layer l by its code c
-  pub record CodedIn (b mark : ℕ) (l : Layer) (w c : ℕ) : Type 0 where
-    pub missing-code : w ≡ mark → c ≡ missingCode b
-    pub other-code : w ≢ mark → c ≤ lastCode b
+  pub record CodedIn (mark : ℕ) (l : Layer) (w c : ℕ) : Type 0 where
+    pub missing-code : w ≡ mark → c ≡ missingCode (l .width)
+    pub other-code : w ≢ mark → c ≤ lastCode (l .width)
     pub half-step : w ≢ mark → 2 * distance (position F X w) (codeMeaning F X l c) ≤ 2 ^ l .exponent
 
-  module _ (b last mark : ℕ) (ws : List ℕ) (h : holds b (span F X (summary F X mark ws)) last ≡ true) where
+  module _ (last mark b : ℕ) (ws : List ℕ) (h : holds b (span F X (summary F X mark ws)) last ≡ true) where
     abbrev s : Summary
     s = summary F X mark ws
 
-    pub layer-holds : holds b (span F X (summary F X mark ws)) (layerOf F X b last mark ws .exponent) ≡ true
+    pub layer-holds : holds b (span F X (summary F X mark ws)) (layerOf F X last mark b ws .exponent) ≡ true
     unfolding layerOf
     layer-holds = least-holds b (span F X s) last 0 (rw add-zero h)
 
-    pub layer-least : (d : ℕ) → holds b (span F X (summary F X mark ws)) d ≡ true → layerOf F X b last mark ws .exponent ≤ d
+    pub layer-least : (d : ℕ) → holds b (span F X (summary F X mark ws)) d ≡ true → layerOf F X last mark b ws .exponent ≤ d
     unfolding layerOf
     layer-least d k = least-least b (span F X s) last 0 d zero-le k
 
     reference-below : (i : ℕ) → i < length ws → getD ws i 0 ≢ mark
-        → (position F X (layerOf F X b last mark ws .reference) ≤ position F X (getD ws i 0))
-        × (position F X (getD ws i 0) - position F X (layerOf F X b last mark ws .reference) ≤ span F X s)
+        → (position F X (layerOf F X last mark b ws .reference) ≤ position F X (getD ws i 0))
+        × (position F X (getD ws i 0) - position F X (layerOf F X last mark b ws .reference) ≤ span F X s)
     unfolding layerOf
     reference-below i k e = spans-span s (position F X (getD ws i 0)) (summary-spans mark ws i k e)
 
-    pub layer-codes : (i : ℕ) → i < length ws → CodedIn b mark (layerOf F X b last mark ws) (getD ws i 0) (code F X b mark (layerOf F X b last mark ws) (getD ws i 0))
-    unfolding distance codeMeaning
+    pub layer-codes : (i : ℕ) → i < length ws → CodedIn mark (layerOf F X last mark b ws) (getD ws i 0) (code F X mark (layerOf F X last mark b ws) (getD ws i 0))
+    unfolding distance codeMeaning layerOf
     layer-codes i k =
         record {
-          missing-code = λ e. code-missing b mark l w e;
+          missing-code = λ e. code-missing mark l w e;
           other-code = λ e.
-              rw (code-present b mark l w e)
+              rw (code-present mark l w e)
               (nearest-between 0 (lastCode b) n g (pow-pos (l .exponent)) (omega arith)
               (omega (arith, reference-below i k e, holds-order b (span F X s) (l .exponent) layer-holds)) .1);
-          half-step = λ e. rw (code-present b mark l w e) (omega (arith, reference-below i k e, nearest-half n g (pow-pos (l .exponent))));
+          half-step = λ e. rw (code-present mark l w e) (omega (arith, reference-below i k e, nearest-half n g (pow-pos (l .exponent))));
         }
       where
         l : Layer
-        l = layerOf F X b last mark ws
+        l = layerOf F X last mark b ws
 
         w : ℕ
         w = getD ws i 0
@@ -267,10 +266,21 @@ module _ (F X : ℕ) where
         g : ℕ
         g = 2 ^ l .exponent
 
--- the last exponent, 114, holds the span of every layer of singles
-widest : 2 * origin 23 8 ≤ lastCode 16 * 2 ^ 263
-unfolding origin size exponentField fraction infinity lastCode
-widest = lit≤ tt
+-- the last exponent, 128, holds the span of every layer of singles, whatever its width
+origin-singles : origin 23 8 ≡ 2 ^ 277
+unfolding origin size exponentField fraction infinity
+origin-singles = refl
 
-pub singles-held : (mark : ℕ) (ws : List ℕ) → Packable 23 8 mark ws → holds 16 (span 23 8 (summary 23 8 mark ws)) 263 ≡ true
-singles-held mark ws p = order-holds 16 (span 23 8 (summary 23 8 mark ws)) 263 (le-trans (span-under 23 8 mark ws p) widest)
+widest : (b : ℕ) → 2 ≤ b → 2 * origin 23 8 ≤ lastCode b * 2 ^ 277
+unfolding lastCode
+widest b h =
+    subst (λ (x : ℕ). 2 * x ≤ (2 ^ b - 2) * 2 ^ 277) (sym origin-singles)
+    (mul-le-mul-right {m = 2} {n = 2 ^ b - 2} (2 ^ 277) (omega (arith, pow-mono {i = 2} {j = b} h)))
+
+pub singles-held : (mark b : ℕ) (ws : List ℕ) → 2 ≤ b → Packable 23 8 mark ws → holds b (span 23 8 (summary 23 8 mark ws)) 277 ≡ true
+singles-held mark b ws h p = order-holds b (span 23 8 (summary 23 8 mark ws)) 277 (le-trans (span-under 23 8 mark ws p) (widest b h))
+
+-- the last code is below the missing one
+pub codes-apart : (b : ℕ) → 1 ≤ b → lastCode b < missingCode b
+unfolding lastCode missingCode
+codes-apart b h = omega (arith, pow-mono {i = 1} {j = b} h)

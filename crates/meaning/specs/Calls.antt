@@ -62,21 +62,21 @@ pub record AfterPack : Type 0 where
   pub references : List ℕ
   pub exponents : List ℤ
 
--- E of an exponent counted from -149; and the layer of a stored reference and E
+-- E of an exponent counted from -149; and the layer of a stored width, reference and E
 unfoldable pub storedExponent : Layer → ℤ
 storedExponent l = subℕ (l .exponent) 149
 
-unfoldable pub storedLayer : ℕ → ℤ → Layer
-storedLayer r e = record { reference = r; exponent = above 149 e }
+unfoldable pub storedLayer : ℕ → ℕ → ℤ → Layer
+storedLayer w r e = record { width = w; reference = r; exponent = above 149 e }
 
--- the last three are the arrays that the results go to, as they were before
-unfoldable pub pack : ℕ → ℕ → List ℕ → List ℕ → List ℕ → List ℤ → AfterPack
-pack mark L ws codes references exponents =
-    let asked = packQuestions mark L ws (length codes) (length references) (length exponents) in
-    let ls = packedLayers 23 8 16 263 mark L ws in
+-- the last three are the arrays that the results go to, as they were before; the widths are only read
+unfoldable pub pack : ℕ → ℕ → List ℕ → List ℕ → List ℕ → List ℕ → List ℤ → AfterPack
+pack mark L widths ws codes references exponents =
+    let asked = packQuestions mark L widths ws (length codes) (length references) (length exponents) in
+    let ls = packedLayers 23 8 277 mark L widths ws in
     record {
       answer = asked;
-      codes = leaving asked (λ _. packedCodes 23 8 16 263 mark L ws) codes;
+      codes = leaving asked (λ _. packedCodes 23 8 277 mark L widths ws) codes;
       references = leaving asked (λ _. map (λ l. l .reference) ls) references;
       exponents = leaving asked (λ _. map storedExponent ls) exponents;
     }
@@ -85,12 +85,15 @@ pub record AfterUnpack : Type 0 where
   pub answer : Outcome (Unit {0})
   pub readings : List ℕ
 
+-- the layers of stored widths, references and exponents
+unfoldable pub storedLayers : List ℕ → List ℕ → List ℤ → List Layer
+storedLayers widths rs es = zipWith (λ stored e. stored e) (zipWith storedLayer widths rs) es
+
 -- the last is the array that the doubles go to, as it was before
-unfoldable pub unpack : ℕ → ℕ → List ℕ → List ℕ → List ℤ → List ℕ → AfterUnpack
-unpack mark L cs rs es readings =
-    let asked = unpackQuestions mark L cs rs es (length readings) in
-    let ls = zipWith storedLayer rs es in
-    record { answer = asked; readings = leaving asked (λ _. unpackedCodes 16 mark L ls cs) readings }
+unfoldable pub unpack : ℕ → ℕ → List ℕ → List ℕ → List ℕ → List ℤ → List ℕ → AfterUnpack
+unpack mark L widths cs rs es readings =
+    let asked = unpackQuestions mark L widths cs rs es (length readings) in
+    record { answer = asked; readings = leaving asked (λ _. unpackedCodes mark L (storedLayers widths rs es) cs) readings }
 
 -- ---- lists of calls
 

@@ -1,7 +1,7 @@
--- Document 01, "Layers". Codes have b bits, 16 in document 01; exponents are counted from -149, so that E in -149 to 114
--- is 0 to 263 here and the step is 2 ^ exponent least spacings.
+-- Document 01, "Layers", with document 02 (e), "A code width for each layer". Exponents are counted from -149, so that E in -149 to 128
+-- is 0 to 277 here and the step is 2 ^ exponent least spacings.
 use mathlib.Core.Bool.{Bool, cond}
-use mathlib.Core.List.{List, [], _∷_, map, flatMap, zipWith, flatten}
+use mathlib.Core.List.{List, [], _∷_, map, zipWith, flatten}
 use Prim.Native.Nat.{ℕ, zero, suc, _+_, _-_, _*_, _/_, _^_}
 use lib.Dec.{leb, eqb}
 use lib.ListN.{length, take, drop}
@@ -20,26 +20,27 @@ smallest Nothing = 0
 smallest (Flat a) = a
 smallest (Spread a z) = a
 
--- What a layer's codes are counted from and in: the reference R, a pattern, and the step exponent E.
+-- "Each layer's record now holds a width w": how wide its codes are, and what they are counted from and in, the reference R, a pattern, and the step exponent E.
 pub record Layer : Type 0 where
+  pub width : ℕ
   pub reference : ℕ
   pub exponent : ℕ
 
--- "65,535 means missing", and the codes below it
+-- "Codes run to 2^w - 2, the missing code is 2^w - 1"
 unfoldable pub missingCode : ℕ → ℕ
-missingCode b = 2 ^ b - 1
+missingCode w = 2 ^ w - 1
 
 unfoldable pub lastCode : ℕ → ℕ
-lastCode b = 2 ^ b - 2
+lastCode w = 2 ^ w - 2
 
--- "An exponent holds the span when the span is ≤ 65,534 times 2 to that exponent."
+-- "whose 2^w - 2 steps hold the span": the span is at most 2^w - 2 times 2 to that exponent
 unfoldable pub holds : ℕ → ℕ → ℕ → Bool
-holds b span e = leb span (lastCode b * 2 ^ e)
+holds w span e = leb span (lastCode w * 2 ^ e)
 
 -- the least exponent from e on that holds the span, of at most `more` after it; the last of them where none holds it, which packing never meets
 unfoldable pub leastFrom : ℕ → ℕ → ℕ → ℕ → ℕ
-leastFrom b span zero e = e
-leastFrom b span (suc more) e = let later = leastFrom b span more (suc e) in cond (holds b span e) e later
+leastFrom w span zero e = e
+leastFrom w span (suc more) e = let later = leastFrom w span more (suc e) in cond (holds w span e) e later
 
 -- "A layer is a run of L singles": n runs of L
 unfoldable pub runs : ℕ → ℕ → List ℕ → List (List ℕ)
@@ -78,26 +79,26 @@ module _ (F X : ℕ) where
   span (Flat a) = 0
   span (Spread a z) = position F X z - position F X a
 
-  -- "Step exponent E: the least in -149 to 114", here 0 to `last`, that holds the span
+  -- "the step exponent is the least from -149 to 128 whose 2^w - 2 steps hold the span", here from 0 to `last`; of a layer of width w
   unfoldable pub layerOf : ℕ → ℕ → ℕ → List ℕ → Layer
-  layerOf b last mark ws =
+  layerOf last mark w ws =
       let s = summary mark ws in
-      record { reference = smallest s; exponent = leastFrom b (span s) last 0 }
+      record { width = w; reference = smallest s; exponent = leastFrom w (span s) last 0 }
 
-  -- "Code: (reading - R) / 2^E to the nearest whole number, ties to even; 65,535 means missing."
-  unfoldable pub code : ℕ → ℕ → Layer → ℕ → ℕ
-  code b mark l w = cond (missing mark w) (missingCode b) (nearest (position F X w - position F X (l .reference)) (2 ^ l .exponent))
+  -- "Code: (reading - R) / 2^E to the nearest whole number, ties to even", and the missing code of the layer's width
+  unfoldable pub code : ℕ → Layer → ℕ → ℕ
+  code mark l r = cond (missing mark r) (missingCode (l .width)) (nearest (position F X r - position F X (l .reference)) (2 ^ l .exponent))
 
   -- "The exact meaning of a code that isn't the missing one is R plus code times the step, with nothing rounded": its position
   unfoldable pub codeMeaning : Layer → ℕ → ℕ
   codeMeaning l c = position F X (l .reference) + c * 2 ^ l .exponent
 
-  -- "Each layer is packed into its own part of the codes, and the reference and exponent arrays have one entry per layer."
-  unfoldable pub packedLayers : ℕ → ℕ → ℕ → ℕ → List ℕ → List Layer
-  packedLayers b last mark L ws = map (layerOf b last mark) (layers L ws)
+  -- "Each layer is packed into its own part of the codes, and the reference and exponent arrays have one entry per layer", as the array of widths has.
+  unfoldable pub packedLayers : ℕ → ℕ → ℕ → List ℕ → List ℕ → List Layer
+  packedLayers last mark L widths ws = zipWith (layerOf last mark) widths (layers L ws)
 
-  unfoldable pub packedCodes : ℕ → ℕ → ℕ → ℕ → List ℕ → List ℕ
-  packedCodes b last mark L ws = flatMap (λ layer. map (code b mark (layerOf b last mark layer)) layer) (layers L ws)
+  unfoldable pub packedCodes : ℕ → ℕ → ℕ → List ℕ → List ℕ → List ℕ
+  packedCodes last mark L widths ws = flatten (zipWith (λ w part. map (code mark (layerOf last mark w part)) part) widths (layers L ws))
 
 -- ---- unpacking
 
@@ -115,8 +116,8 @@ nearestDouble p =
     (pattern 52 11 1 (nearestMagnitude ((origin 23 8 - p) * scale)))
 
 -- "the code as a double, times 2^E, plus R, so that only the addition rounds; a missing code becomes the caller's double mark"
-unfoldable pub unpackedCode : ℕ → ℕ → Layer → ℕ → ℕ
-unpackedCode b mark l c = cond (eqb c (missingCode b)) mark (nearestDouble (codeMeaning 23 8 l c))
+unfoldable pub unpackedCode : ℕ → Layer → ℕ → ℕ
+unpackedCode mark l c = cond (eqb c (missingCode (l .width))) mark (nearestDouble (codeMeaning 23 8 l c))
 
-unfoldable pub unpackedCodes : ℕ → ℕ → ℕ → List Layer → List ℕ → List ℕ
-unpackedCodes b mark L ls cs = flatten (zipWith (λ l part. map (unpackedCode b mark l) part) ls (layers L cs))
+unfoldable pub unpackedCodes : ℕ → ℕ → List Layer → List ℕ → List ℕ
+unpackedCodes mark L ls cs = flatten (zipWith (λ l part. map (unpackedCode mark l) part) ls (layers L cs))

@@ -6,3 +6,4 @@ pub mod Questions
 pub mod Calls
 pub mod Claim
 pub mod Comparing
+pub mod OldForm

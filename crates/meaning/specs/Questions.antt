@@ -1,12 +1,13 @@
 -- Document 01, "Questions before work begins": from a call's inputs to its outcome. Question 9 stands with the program's text, in the crate `form`.
 use mathlib.Core.Bool.{Bool, true, cond, _&&_, _||_}
-use mathlib.Core.List.{List, [], _∷_}
+use mathlib.Core.List.{List, [], _∷_, zipWith}
 use Prim.Native.Nat.{ℕ, suc, _+_, _-_, _/_, _%_, _^_}
 use lib.Dec.{leb, ltb, eqb}
 use lib.IntN.{ℤ, pos, negsuc, negℤ, natAbs}
 use lib.ListN.{length}
 use lib.Signed.{leZ}
 use Rattle.meaning.specs.Readings.{magnitude, infinity, finite, leastExp, missing}
+use Rattle.meaning.specs.Layers.{missingCode, layers}
 use Rattle.meaning.specs.Methods.{Method, tail, shave, set, groom, halfshave, round, absolute, digits, digitCount}
 
 -- "Every call ends, with one of two outcomes": a refusal with its number, or an accepted call with what comes of it.
@@ -60,26 +61,54 @@ module _ (F X : ℕ) where
   unfoldable pub isNan : ℕ → Bool
   isNan w = ltb (infinity F X) (magnitude F X w)
 
--- Packing and unpacking. "is L 1 to 65,536?", "is the number of readings (or codes) a whole multiple of L?", "has each other array the length that follows?"
--- n is that number; the other arrays have the lengths `same`, `references` and `exponents`.
-unfoldable pub layerQuestions : ℕ → ℕ → ℕ → ℕ → ℕ → Outcome (Unit {0}) → Outcome (Unit {0})
-layerQuestions L n same references exponents rest =
-    ask (leb 1 L && leb L 65536) 3
-    (ask (eqb (n % L) 0) 4
-    (ask (eqb same n && eqb references (n / L) && eqb exponents (n / L)) 5
-    rest))
+-- ---- packing and unpacking: each test once, then the questions in their order
 
--- "is each reading finite or the mark?" The last three are lengths.
-unfoldable pub packQuestions : ℕ → ℕ → List ℕ → ℕ → ℕ → ℕ → Outcome (Unit {0})
-packQuestions mark L ws codes references exponents =
-    layerQuestions L (length ws) codes references exponents
-    (ask (all (λ w. finite 23 8 w || missing mark w) ws) 6
+-- "is L 1 to 65,536?"
+abbrev pub lengthInRange : ℕ → Bool
+lengthInRange L = leb 1 L && leb L 65536
+
+-- "is the number of readings (or codes) a whole multiple of L?"
+abbrev pub whole : ℕ → ℕ → Bool
+whole n L = eqb (n % L) 0
+
+-- "Refused: 11, if a width is outside 2 to 16"
+abbrev pub widthInRange : ℕ → Bool
+widthInRange w = leb 2 w && leb w 16
+
+-- "is each reading finite or the mark?": of one
+abbrev pub packable : ℕ → ℕ → Bool
+packable mark r = finite 23 8 r || missing mark r
+
+-- "each E in -149 to 114", and "refusal 7 uses the wider range too": of one
+abbrev pub exponentInRange : ℤ → Bool
+exponentInRange e = between (negℤ (pos 149)) e (pos 128)
+
+-- "12, if a code to be unpacked is above its layer's missing code": of one code in a layer of width w
+abbrev pub codeInRange : ℕ → ℕ → Bool
+codeInRange w c = leb c (missingCode w)
+
+-- 3, 4 and 5, "has each other array the length that follows?", then "11 .. asked after 5". There are n readings (or codes); `others` says whether the array beside them
+-- has its length, and `perLayer` are the lengths of those with one entry for each layer, as the widths have.
+unfoldable pub layerQuestions : ℕ → ℕ → Bool → List ℕ → List ℕ → Outcome (Unit {0}) → Outcome (Unit {0})
+layerQuestions L n others perLayer widths rest =
+    ask (lengthInRange L) 3
+    (ask (whole n L) 4
+    (ask (others && eqb (length widths) (n / L) && all (λ k. eqb k (n / L)) perLayer) 5
+    (ask (all widthInRange widths) 11
+    rest)))
+
+-- 3, 4, 5, 11, 6. The last three are lengths.
+unfoldable pub packQuestions : ℕ → ℕ → List ℕ → List ℕ → ℕ → ℕ → ℕ → Outcome (Unit {0})
+packQuestions mark L widths ws codes references exponents =
+    layerQuestions L (length ws) (eqb codes (length ws)) (references ∷ exponents ∷ []) widths
+    (ask (all (packable mark) ws) 6
     (accepted tt))
 
--- "is each R finite and each E in -149 to 114?", "is the double mark a NaN?" The last is a length.
-unfoldable pub unpackQuestions : ℕ → ℕ → List ℕ → List ℕ → List ℤ → ℕ → Outcome (Unit {0})
-unpackQuestions mark L cs rs es readings =
-    layerQuestions L (length cs) readings (length rs) (length es)
-    (ask (all (finite 23 8) rs && all (λ e. between (negℤ (pos 149)) e (pos 114)) es) 7
+-- 3, 4, 5, 11, then "is each R finite and each E in -149 to 114?", "is the double mark a NaN?" and "12 .. asked after 8". The last is a length.
+unfoldable pub unpackQuestions : ℕ → ℕ → List ℕ → List ℕ → List ℕ → List ℤ → ℕ → Outcome (Unit {0})
+unpackQuestions mark L widths cs rs es readings =
+    layerQuestions L (length cs) (eqb readings (length cs)) (length rs ∷ length es ∷ []) widths
+    (ask (all (finite 23 8) rs && all exponentInRange es) 7
     (ask (isNan 52 11 mark) 8
-    (accepted tt)))
+    (ask (all (λ good. good) (zipWith (λ w part. all (codeInRange w) part) widths (layers L cs))) 12
+    (accepted tt))))

@@ -1,4 +1,4 @@
--- Document 01's number for each case of packing's answer, and what a packing leaves. References are singles: a float stands for its pattern, all NaNs for one.
+-- The documents' number for each case of packing's answer, and what a packing leaves. References are singles: a float stands for its pattern, all NaNs for one.
 use mathlib.Core.List.{List, map}
 use Prim.Native.Nat.{ℕ}
 use lib.IntN.{ℤ}
@@ -12,5 +12,5 @@ unfoldable pub answerOf : Packed → Outcome (Unit {0})
 answerOf variants.Done = accepted tt
 answerOf (variants.Refused n) = refused n
 
-abbrev pub packed : ℕ → ℕ → List ℕ → List ℕ → List Float → List ℤ → AfterPack
-packed mark L ws codes references exponents = pack mark L ws codes (map (toBits binary32) references) exponents
+abbrev pub packed : ℕ → ℕ → List ℕ → List ℕ → List ℕ → List Float → List ℤ → AfterPack
+packed mark L widths ws codes references exponents = pack mark L widths ws codes (map (toBits binary32) references) exponents

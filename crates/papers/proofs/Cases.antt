@@ -1,7 +1,7 @@
 -- The cases, by computing them.
 use mathlib.Core.Path.{refl}
 use native.Mathlib.Omega.{arith}
-use lib.Dec.{lit<}
+use lib.Dec.{lit≤, lit<}
 use Rattle.meaning.proofs.CasesRows.{afterAll}
 use Rattle.papers.specs.Moved.{moved}
 use Rattle.papers.specs.Listings.{masked, maskedHalf, addedMasked}
@@ -22,6 +22,7 @@ attained =
       halfshave-relative = refl;
       digits-half = refl;
       pack-half = refl;
+      pack-half-narrow = refl;
     }
 
 pub left-cases : LeftCases
@@ -70,13 +71,18 @@ listings-beyond = record { A2-zero = refl; A4-largest = refl; A4-nan = refl }
 
 pub layer-top : LayerTop
 unfolding afterAll
-layer-top = record { top-beyond = refl }
+layer-top = record { top-beyond = refl; top-beyond-narrow = refl }
 
 pub double-beyond : DoubleBeyond
 unfolding afterAll
 double-beyond =
     record {
       still-coded =
-          record { missing-code = (λ e. absurd (omega (arith, e)), λ e. absurd (omega (arith, e))); near = λ p. lit< tt; near-left = λ p. lit< tt };
+          record {
+            missing-code = (λ e. absurd (omega (arith, e)), λ e. absurd (omega (arith, e)));
+            in-width = lit≤ tt;
+            near = λ p. lit< tt;
+            near-left = λ p. lit< tt;
+          };
       double-beyond = refl;
     }

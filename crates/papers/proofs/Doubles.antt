@@ -4,18 +4,18 @@ use mathlib.Core.Path.{_≡_, refl, sym, ap, ap₂, _∙_}
 use mathlib.Core.Logic.{_⊎_, inl, inr, _≢_}
 use mathlib.Core.Bool.{true, cond}
 use Prim.Native.Nat.{ℕ, suc, _+_, _-_, _*_, _^_, _≤_, _<_}
-use native.Mathlib.Nat.{add-mul, le-refl, le-trans, le-of-lt, lt-of-lt-of-le, lt-of-le-of-lt, mul-le-mul, mul-le-mul-right, mul-assoc, mul-comm, pow-suc, zero-mul}
+use native.Mathlib.Nat.{add-mul, le-refl, le-trans, le-of-lt, lt-of-lt-of-le, lt-of-le-of-lt, mul-le-mul, mul-le-mul-right, mul-le-mul-left, mul-assoc, mul-comm, pow-suc, zero-mul}
 use native.Mathlib.Decide.{decLt, decLe, ℕ-discrete}
 use native.Mathlib.Omega.{arith}
 use borrow.Author.Tests.{le-leb, lt-leb}
 use lib.Pow.{pow-pos, pow-add, pow-mono, shl-lt}
 use lib.Dec.{leb}
 use Rattle.meaning.specs.Readings.{size, spacing, spacingExp, sign, magnitude, pattern, infinity, finite, leastExp, origin, position, distance}
-use Rattle.meaning.specs.Layers.{Layer, codeMeaning, nearestMagnitude, nearestDouble}
+use Rattle.meaning.specs.Layers.{Layer, missingCode, codeMeaning, nearestMagnitude, nearestDouble}
 use Rattle.meaning.proofs.Powers.{pow-split}
 use Rattle.meaning.proofs.Sizes.{Form, form, size-at, size-form, size-small}
 use Rattle.meaning.proofs.Patterns.{magnitude-pattern, sign-pattern, finite-below, below-finite, size-below, position-plus, position-minus}
-use Rattle.papers.specs.Unpacked.{HeldIn53, double, meaningSize, apart}
+use Rattle.papers.specs.Unpacked.{CodeOf, HeldIn53, double, meaningSize, apart}
 use Rattle.papers.proofs.Apart.{distance-self}
 use Rattle.papers.proofs.Distances.{apart-up, apart-down, scaled, distance-le, through-less, through-exact, landed, same-up, same-down}
 use Rattle.papers.proofs.NearestMagnitude.{v, v-finite, near-is, near-half, near-most, near-least, near-exact}
@@ -26,11 +26,11 @@ twice k x h = rw (pow-suc 2 k) (omega arith)
 both : (k a b : ℕ) → a < 2 ^ k → b < 2 ^ k → a + b < 2 ^ suc k
 both k a b h l = rw (pow-suc 2 k) (omega arith)
 
-room-of : (n : ℕ) → n < 2 ^ 280 → 2 * (n * 2 ^ 925) < size 52 (infinity 52 11)
+room-of : (n : ℕ) → n < 2 ^ 294 → 2 * (n * 2 ^ 925) < size 52 (infinity 52 11)
 unfolding infinity
 room-of n h =
     rw (size-at 52 2046 (2 ^ 52) (inr (le-refl (2 ^ 52))) (omega arith), ← pow-add 2 52 2046)
-    (lt-of-lt-of-le (twice 1205 (n * 2 ^ 925) (shl-lt 280 925 h)) (pow-mono {i = 1206} {j = 52 + 2046} (omega arith)))
+    (lt-of-lt-of-le (twice 1219 (n * 2 ^ 925) (shl-lt 294 925 h)) (pow-mono {i = 1220} {j = 52 + 2046} (omega arith)))
 
 near-magnitude : (n : ℕ) (room : 2 * n < size 52 (infinity 52 11)) → nearestMagnitude n ≡ v 52 11 n room
 unfolding nearestMagnitude
@@ -46,6 +46,14 @@ below-zero p o = rw (lt-leb (origin 23 8) p o, apart-down p (origin 23 8) (le-of
 
 -- ---- a code's meaning
 
+-- a code that isn't the missing one is at most 2 ^ b - 2 in b bits, and below 65,535 in any width
+pub code-low : (b c : ℕ) → c < missingCode b → c + 2 ≤ 2 ^ b
+unfolding missingCode
+code-low b c h = omega arith
+
+pub code-small : (l : Layer) (c : ℕ) → CodeOf l c → c < 65535
+code-small l c (b, h) = omega (arith, code-low (l .width) c h, pow-mono {i = l .width} {j = 16} b)
+
 origin-is : origin 23 8 ≡ 2 ^ 277
 unfolding origin infinity
 origin-is = size-at 23 254 (2 ^ 23) (inr (le-refl (2 ^ 23))) (omega arith)
@@ -57,7 +65,7 @@ pub record Few (n : ℕ) : Type 0 where
   is : n ≡ digits * 2 ^ shift
   few : digits < 2 ^ 53
 
-module _ (l : Layer) (k : ℕ) (f : finite 23 8 (l .reference) ≡ true) (e : l .exponent ≤ 263) (h : k < 65535) where
+module _ (l : Layer) (k : ℕ) (f : finite 23 8 (l .reference) ≡ true) (e : l .exponent ≤ 277) (h : k < 65535) where
   -- the sizes of the reference, of the code times the step, and of the meaning
   abbrev r : ℕ
   r = magnitude 23 8 (l .reference)
@@ -91,18 +99,18 @@ module _ (l : Layer) (k : ℕ) (f : finite 23 8 (l .reference) ≡ true) (e : l 
       go (inl z) = inl (omega arith)
       go (inr z) = inr (omega arith)
 
-  B-small : B < 2 ^ 279
-  B-small = lt-of-lt-of-le (shl-lt 16 (l .exponent) (omega arith)) (pow-mono {i = 16 + l .exponent} {j = 279} (omega arith))
+  B-small : B < 2 ^ 293
+  B-small = lt-of-lt-of-le (shl-lt 16 (l .exponent) (omega arith)) (pow-mono {i = 16 + l .exponent} {j = 293} (omega arith))
 
-  A-small : A < 2 ^ 279
-  A-small = lt-of-lt-of-le (rw origin-is at A-below) (pow-mono {i = 277} {j = 279} (omega arith))
+  A-small : A < 2 ^ 293
+  A-small = lt-of-lt-of-le (rw origin-is at A-below) (pow-mono {i = 277} {j = 293} (omega arith))
 
-  n-small : n < 2 ^ 280
+  n-small : n < 2 ^ 294
   n-small = go either
     where
-      go : (n ≡ A + B) ⊎ (n ≡ distance A B) → n < 2 ^ 280
-      go (inl z) = rw z (both 279 A B A-small B-small)
-      go (inr z) = rw z (lt-of-le-of-lt (distance-le A B) (both 279 A B A-small B-small))
+      go : (n ≡ A + B) ⊎ (n ≡ distance A B) → n < 2 ^ 294
+      go (inl z) = rw z (both 293 A B A-small B-small)
+      go (inr z) = rw z (lt-of-le-of-lt (distance-le A B) (both 293 A B A-small B-small))
 
   pub whole : (x y u : ℕ) → A ≡ x * 2 ^ u → B ≡ y * 2 ^ u → x + y < 2 ^ 53 → Few n
   whole x y u a b s = go either
@@ -115,11 +123,26 @@ module _ (l : Layer) (k : ℕ) (f : finite 23 8 (l .reference) ≡ true) (e : l 
   zero-bits z = whole 0 k (l .exponent) (ap (size 23) z ∙ size-small 23 0 (omega arith) ∙ sym (zero-mul (2 ^ l .exponent))) refl (omega arith)
 
   -- a spacing of the reference is so many steps, or a step so many of its spacings
-  pub step-bits : l .exponent ≤ spacingExp 23 r + 37 → spacingExp 23 r ≤ l .exponent + 29 → Few n
-  step-bits a b = go (form 23 r) (decLe (l .exponent) q)
+  pub step-bits : CodeOf l k → l .exponent + l .width ≤ spacingExp 23 r + 53 → spacingExp 23 r ≤ l .exponent + 29 → Few n
+  step-bits c a b = go (form 23 r) (decLe (l .exponent) q)
     where
       q : ℕ
       q = spacingExp 23 r
+
+      -- the code takes l .width bits, and a step D spacings at most
+      D : ℕ
+      D = 2 ^ (53 - l .width)
+
+      few : (s : Form 23 r) → s .sig + k * 2 ^ (l .exponent - q) < 2 ^ 53
+      few s =
+          omega (
+            arith,
+            s .below,
+            mul-le-mul-left k (pow-mono {i = l .exponent - q} {j = 53 - l .width} (omega arith)),
+            mul-le-mul-right D (code-low (l .width) k (c .1)),
+            pow-split 53 (l .width) (omega arith),
+            pow-mono {i = 37} {j = 53 - l .width} (omega arith),
+          )
 
       go : Form 23 r → Dec (l .exponent ≤ q) → Few n
       go s (yes d) =
@@ -129,11 +152,11 @@ module _ (l : Layer) (k : ℕ) (f : finite 23 8 (l .reference) ≡ true) (e : l 
       go s (no d) =
           whole (s .sig) (k * 2 ^ (l .exponent - q)) q (size-form 23 r s)
           (ap (λ (x : ℕ). k * x) (pow-split (l .exponent) q (omega arith)) ∙ sym (mul-assoc k (2 ^ (l .exponent - q)) (2 ^ q)))
-          (let w : k * 2 ^ (l .exponent - q) ≤ 65534 * 2 ^ 37 = mul-le-mul {n₂ = 65534} (omega arith) (pow-mono {i = l .exponent - q} {j = 37} (omega arith)) in omega (arith, s .below))
+          (few s)
 
-  pub held-bits : HeldIn53 l → Few n
-  held-bits (inl z) = zero-bits (omega arith)
-  held-bits (inr (a, b)) = step-bits (omega arith) (omega arith)
+  pub held-bits : CodeOf l k → HeldIn53 l → Few n
+  held-bits c (inl z) = zero-bits (omega arith)
+  held-bits c (inr (a, b)) = step-bits c (omega arith) (omega arith)
 
   room : 2 * (n * 2 ^ 925) < size 52 (infinity 52 11)
   room = room-of n n-small

@@ -48,9 +48,9 @@ summary-finite mark (w ∷ ws) p = go (ℕ-discrete w mark) (summary-finite mark
     go (yes e) u = rw (eq-eqb w mark e) u
     go (no e) u = rw (ne-eqb w mark e) (widened-finite (plusZero 23 8 w) (summary 23 8 mark ws) (plain w (p 0 (omega arith) e)) u)
 
-pub reference-finite : (mark : ℕ) (ws : List ℕ) → AllFinite mark ws → finite 23 8 (layer mark ws .reference) ≡ true
+pub reference-finite : (mark width : ℕ) (ws : List ℕ) → AllFinite mark ws → finite 23 8 (layer mark width ws .reference) ≡ true
 unfolding layerOf smallest
-reference-finite mark ws p = go (summary 23 8 mark ws) (summary-finite mark ws p)
+reference-finite mark width ws p = go (summary 23 8 mark ws) (summary-finite mark ws p)
   where
     go : (s : Summary) → Finites s → finite 23 8 (smallest s) ≡ true
     go Nothing u = zero-finite

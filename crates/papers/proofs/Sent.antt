@@ -4,30 +4,31 @@ use mathlib.Core.Logic.{_⊎_, inl, inr, _≢_}
 use mathlib.Core.Bool.{Bool, true}
 use mathlib.Core.List.{List, [], _∷_, map, zipWith, flatten}
 use Prim.Native.Nat.{ℕ, zero, suc, _+_, _*_, _/_, _%_, _^_, _≤_, _<_, suc-le-suc}
-use native.Mathlib.Nat.{div-add-mod', div-lt-iff-lt-mul, mod-lt, le-of-suc-le-suc, le-div-iff-mul-le, not-suc-le-zero, pow-suc, zero-mul}
+use native.Mathlib.Nat.{div-add-mod', div-lt-iff-lt-mul, mod-lt, le-of-suc-le-suc, le-div-iff-mul-le, mul-le-mul-right, not-suc-le-zero, pow-suc}
 use native.Mathlib.Decide.{ℕ-discrete}
 use native.Mathlib.Omega.{arith}
-use borrow.Author.Tests.{le-leb, eq-eqb, ltb-true}
-use lib.IntN.{ℤ, pos, negℤ}
-use lib.ListN.{length, getD, take, drop, length-map, length-drop, length-append, List·getD-append}
+use borrow.Author.Tests.{le-leb, leb-true, eq-eqb, ltb-true}
+use lib.Dec.{leb}
+use lib.IntN.{ℤ, pos}
+use lib.ListN.{length, getD, take, drop, length-map, length-drop}
 use lib.Pow.{pow-pos}
-use lib.Seq.{getD-take, getD-drop, getD-append-add, length-take-le}
+use lib.Seq.{getD-take, getD-drop, length-take-le}
 use Rattle.meaning.specs.Readings.{size, sign, magnitude, infinity, finite, magnitudeOf, origin, position, distance, present}
 use Rattle.meaning.specs.Methods.{Method, trimmable}
-use Rattle.meaning.specs.Layers.{Layer, missingCode, lastCode, runs, layers, unpackedCode, unpackedCodes}
-use Rattle.meaning.specs.Questions.{accepted, ask, all, between, isNan, layerQuestions, unpackQuestions}
-use Rattle.meaning.specs.Calls.{Call, AfterPack, AfterUnpack, leaving, inTurn, acceptedCalls, largestUnit, pack, unpack, storedLayer}
-use Rattle.meaning.specs.Claim.{oneKind, Kept, PackClaim}
-use Rattle.meaning.proofs.Accepted.{and-second}
+use Rattle.meaning.specs.Layers.{Layer, missingCode, runs, layers, layerOf, unpackedCode, unpackedCodes}
+use Rattle.meaning.specs.Questions.{accepted, ask, all, isNan, widthInRange, exponentInRange, codeInRange, layerQuestions, unpackQuestions}
+use Rattle.meaning.specs.Calls.{Call, AfterPack, AfterUnpack, leaving, inTurn, acceptedCalls, largestUnit, pack, unpack, storedLayer, storedLayers}
+use Rattle.meaning.specs.Claim.{oneKind, Kept, layerAt, PackClaim}
+use Rattle.meaning.proofs.Accepted.{and-first, and-second}
 use Rattle.meaning.proofs.Patterns.{finite-below, below-finite, size-below, position-plus, position-minus, magnitudeOf-size, magnitudeOf-mono}
-use Rattle.meaning.proofs.Packing.{Packable, CodedIn, layer-least, singles-held}
-use Rattle.meaning.proofs.Layering.{map-at}
+use Rattle.meaning.proofs.Packing.{Packable, CodedIn, layer-least, singles-held, codes-apart}
+use Rattle.meaning.proofs.Layering.{map-at, zip-at, zip-length, flat-at, flat-length}
 use Rattle.meaning.proofs.Claim.{list-claim}
-use Rattle.meaning.proofs.Packed.{Asked, all-asked, in-layers, stored-at, room, part-packable, coded-at, trimmed-one, still-here, largest-mono, demand-3}
+use Rattle.meaning.proofs.Packed.{all-at, Asked, all-asked, in-layers, stored-at, room, part-packable, coded-at, trimmed-one, still-here, largest-mono, demand-3}
 use Rattle.papers.specs.LayerBounds.{layer}
-use Rattle.papers.specs.Unpacked.{SentDouble, UnpackClaim, SentUnpacked, double, apart}
+use Rattle.papers.specs.Unpacked.{SentDouble, UnpackClaim, SentUnpacked, CodeOf, double, apart}
 use Rattle.papers.proofs.References.{reference-finite}
-use Rattle.papers.proofs.Doubles.{double-finite}
+use Rattle.papers.proofs.Doubles.{code-small, double-finite}
 use Rattle.papers.proofs.Unpacked.{is-unpacked, half-kept, sent-by, unpacked}
 
 all-pass : {A : Type 0} (f : A → Bool) (d : A) (xs : List A) → ((i : ℕ) → i < length xs → f (getD xs i d) ≡ true) → all f xs ≡ true
@@ -35,49 +36,43 @@ unfolding all
 all-pass f d [] h = refl
 all-pass f d (x ∷ xs) h = rw (h 0 (omega arith), all-pass f d xs (λ i k. h (suc i) (suc-le-suc k))) refl
 
--- ---- what is made of each code with its layer, found at its place
+-- question 12 of a layer's codes
+abbrev inRange : ℕ → List ℕ → Bool
+inRange w own = all (codeInRange w) own
 
-module _ (L : ℕ) (f : Layer → ℕ → ℕ) where
-  abbrev made : ℕ → List ℕ → List ℤ → List ℕ → List ℕ
-  made n rs es cs = flatten (zipWith (λ l part. map (f l) part) (zipWith storedLayer rs es) (runs L n cs))
+-- ---- two lists of one length, element by element
 
-  first-long : (s : Layer) (cs : List ℕ) → L ≤ length cs → length (map (f s) (take L cs)) ≡ L
-  first-long s cs h = length-map (take L cs) (f s) ∙ length-take-le L cs h
-
-  made-at : (n j i : ℕ) (rs : List ℕ) (es : List ℤ) (cs : List ℕ) → n ≤ length rs → n ≤ length es → n * L ≤ length cs → j < n → i < L
-      → getD (made n rs es cs) (j * L + i) 0 ≡ f (storedLayer (getD rs j 0) (getD es j (pos 0))) (getD cs (j * L + i) 0)
-  unfolding runs zipWith flatten
-  made-at zero j i rs es cs a b h k l = absurd (not-suc-le-zero k)
-  made-at (suc n) j i [] es cs a b h k l = absurd (not-suc-le-zero a)
-  made-at (suc n) j i (r ∷ rs) [] cs a b h k l = absurd (not-suc-le-zero b)
-  made-at (suc n) zero i (r ∷ rs) (e ∷ es) cs a b h k l =
-      let s = storedLayer r e in
-      let z : 0 * L + i ≡ i = omega arith in
-      rw z
-      (List·getD-append (map (f s) (take L cs)) (made n rs es (drop L cs)) 0 i (omega (arith, first-long s cs (omega arith)))
-      ∙ map-at (f s) 0 0 (take L cs) i (omega (arith, length-take-le L cs (omega arith))) ∙ ap (f s) (getD-take L cs i 0 l))
-  made-at (suc n) (suc j) i (r ∷ rs) (e ∷ es) cs a b h k l =
-      let s = storedLayer r e in
-      let z : suc j * L + i ≡ length (map (f s) (take L cs)) + (j * L + i) = omega (arith, first-long s cs (omega arith)) in
-      let y : L + (j * L + i) ≡ suc j * L + i = omega arith in
-      ap (λ (x : ℕ). getD (made (suc n) (r ∷ rs) (e ∷ es) cs) x 0) z ∙ getD-append-add (map (f s) (take L cs)) (made n rs es (drop L cs)) (j * L + i) 0
-      ∙ made-at n j i rs es (drop L cs) (le-of-suc-le-suc a) (le-of-suc-le-suc b) (simp length-drop (omega arith)) (le-of-suc-le-suc k) l
-      ∙ ap (f (storedLayer (getD rs j 0) (getD es j (pos 0)))) (getD-drop L cs (j * L + i) 0 ∙ ap (λ (x : ℕ). getD cs x 0) y)
-
-  no-layers : (ls : List Layer) → zipWith (λ l part. map (f l) part) ls [] ≡ []
+module _ {A B C : Type 0} (f : A → B → C) where
+  both-at : (a : A) (b : B) (c : C) (xs : List A) (ys : List B) → length xs ≡ length ys → (j : ℕ) → j < length xs → getD (zipWith f xs ys) j c ≡ f (getD xs j a) (getD ys j b)
   unfolding zipWith
-  no-layers [] = refl
-  no-layers (l ∷ ls) = refl
+  both-at a b c [] ys e j h = absurd (not-suc-le-zero h)
+  both-at a b c (x ∷ xs) [] e j h = absurd (omega arith)
+  both-at a b c (x ∷ xs) (y ∷ ys) e zero h = refl
+  both-at a b c (x ∷ xs) (y ∷ ys) e (suc j) h = both-at a b c xs ys (omega arith) j (le-of-suc-le-suc h)
 
-  made-long : (n : ℕ) (rs : List ℕ) (es : List ℤ) (cs : List ℕ) → n ≤ length rs → n ≤ length es → n * L ≤ length cs → length (made n rs es cs) ≡ n * L
-  unfolding runs zipWith flatten
-  made-long zero rs es cs a b h = ap (λ (x : List (List ℕ)). length (flatten x)) (no-layers (zipWith storedLayer rs es)) ∙ sym (zero-mul L)
-  made-long (suc n) [] es cs a b h = absurd (not-suc-le-zero a)
-  made-long (suc n) (r ∷ rs) [] cs a b h = absurd (not-suc-le-zero b)
-  made-long (suc n) (r ∷ rs) (e ∷ es) cs a b h =
-      let s = storedLayer r e in
-      let rest = made-long n rs es (drop L cs) (le-of-suc-le-suc a) (le-of-suc-le-suc b) (simp length-drop (omega arith)) in
-      omega (arith, length-append (map (f s) (take L cs)) (made n rs es (drop L cs)), rest, first-long s cs (omega arith))
+  both-long : (xs : List A) (ys : List B) → length xs ≡ length ys → length (zipWith f xs ys) ≡ length xs
+  unfolding zipWith
+  both-long [] ys e = refl
+  both-long (x ∷ xs) [] e = absurd (omega arith)
+  both-long (x ∷ xs) (y ∷ ys) e = ap suc (both-long xs ys (omega arith))
+
+-- the stored layers, found at their places
+module _ (widths rs : List ℕ) (es : List ℤ) (m : length widths ≡ length rs) (n : length widths ≡ length es) where
+  abbrev started : List (ℤ → Layer)
+  started = zipWith storedLayer widths rs
+
+  started-long : length started ≡ length es
+  started-long = both-long storedLayer widths rs m ∙ n
+
+  layers-long : length (storedLayers widths rs es) ≡ length widths
+  unfolding storedLayers
+  layers-long = both-long (λ stored e. stored e) started es started-long ∙ both-long storedLayer widths rs m
+
+  layers-at : (d : Layer) (j : ℕ) → j < length widths → getD (storedLayers widths rs es) j d ≡ layerAt widths rs es j
+  unfolding storedLayers
+  layers-at d j h =
+      both-at (λ stored e. stored e) (λ e. d) (pos 0) d started es started-long j (omega (arith, both-long storedLayer widths rs m))
+      ∙ ap (λ (g : ℤ → Layer). g (getD es j (pos 0))) (both-at storedLayer 0 0 (λ e. d) widths rs m j h)
 
 -- ---- a single within half a step of a double
 
@@ -123,30 +118,29 @@ size-bound v d g f k h =
 
 -- ---- one place
 
-module _ (mark doubleMark : ℕ) (xs : List Method) (l : Layer) (w v c : ℕ) (kept : Kept 23 8 mark xs w v) (r : CodedIn 23 8 16 mark l v c)
-    (f : v ≢ mark → magnitude 23 8 v < infinity 23 8) (g : finite 23 8 (l .reference) ≡ true) (e : l .exponent ≤ 263) (nan : isNan 52 11 doubleMark ≡ true) where
+module _ (mark doubleMark : ℕ) (xs : List Method) (l : Layer) (w v c : ℕ) (kept : Kept 23 8 mark xs w v) (least : 2 ≤ l .width) (most : l .width ≤ 16)
+    (r : CodedIn 23 8 mark l v c) (f : v ≢ mark → magnitude 23 8 v < infinity 23 8) (g : finite 23 8 (l .reference) ≡ true) (e : l .exponent ≤ 277) (nan : isNan 52 11 doubleMark ≡ true) where
   abbrev y : ℕ
-  y = unpackedCode 16 doubleMark l c
+  y = unpackedCode doubleMark l c
 
   trims : w ≢ mark → trimmable 23 8 mark w ≡ true
-  trims p = trimmed-one mark xs l w v c kept r f p
+  trims p = trimmed-one mark xs l w v c kept least r f p
 
   here : w ≢ mark → v ≢ mark
-  here p = still-here mark xs l w v c kept r f p
+  here p = still-here mark xs l w v c kept least r f p
 
-  code-below : w ≢ mark → c < 65535
-  unfolding lastCode
-  code-below p = omega (arith, r .other-code (here p))
+  code-below : w ≢ mark → CodeOf l c
+  code-below p = (most, omega (arith, r .other-code (here p), codes-apart (l .width) (omega arith)))
 
   is-double : w ≢ mark → y ≡ double l c
-  is-double p = is-unpacked doubleMark l c (code-below p)
+  is-double p = is-unpacked doubleMark l c (code-below p .1)
 
   is-finite : w ≢ mark → finite 52 11 y ≡ true
-  is-finite p = rw (is-double p) (double-finite l c g e (code-below p))
+  is-finite p = rw (is-double p) (double-finite l c g e (code-small l c (code-below p)))
 
   marked : w ≡ mark → y ≡ doubleMark
   unfolding unpackedCode
-  marked p = rw (eq-eqb c (missingCode 16) (r .missing-code (kept .mark-stays .1 p))) refl
+  marked p = rw (eq-eqb c (missingCode (l .width)) (r .missing-code (kept .mark-stays .1 p))) refl
 
   only-marked : Dec (w ≡ mark) → y ≡ doubleMark → w ≡ mark
   unfolding isNan
@@ -161,7 +155,7 @@ module _ (mark doubleMark : ℕ) (xs : List Method) (l : Layer) (w v c : ℕ) (k
       (size-bound v y (2 ^ l .exponent) (kept .finite-stays (trims p)) (is-finite p)
       (rw (is-double p) (half-kept l c v g e (code-below p) (kept .finite-stays (trims p)) (r .half-step (here p)))))
 
-  sent-double : SentDouble mark doubleMark xs w l c (unpackedCode 16 doubleMark l c)
+  sent-double : SentDouble mark doubleMark xs w l c (unpackedCode doubleMark l c)
   unfolding trimmable
   sent-double =
       record {
@@ -177,105 +171,168 @@ module _ (mark doubleMark : ℕ) (xs : List Method) (l : Layer) (w v c : ℕ) (k
 -- ---- the whole
 
 module _ (cs : List Call) (mark : ℕ) (ws : List ℕ) (some : 0 < length (acceptedCalls 23 8 cs)) (kind : oneKind (acceptedCalls 23 8 cs) ≡ true) (L : ℕ)
-    (codes references : List ℕ) (exponents : List ℤ) (packs : pack mark L (inTurn 23 8 cs mark ws) codes references exponents .answer ≡ accepted tt)
+    (widths codes references : List ℕ) (exponents : List ℤ) (packs : pack mark L widths (inTurn 23 8 cs mark ws) codes references exponents .answer ≡ accepted tt)
     (doubleMark : ℕ) (doubles : List ℕ) (nan : isNan 52 11 doubleMark ≡ true) (long : length doubles ≡ length ws) where
   abbrev vs : List ℕ
   vs = inTurn 23 8 cs mark ws
 
   abbrev p : AfterPack
-  p = pack mark L vs codes references exponents
+  p = pack mark L widths vs codes references exponents
 
   abbrev u : AfterUnpack
-  u = unpack doubleMark L (p .codes) (p .references) (p .exponents) doubles
+  u = unpack doubleMark L widths (p .codes) (p .references) (p .exponents) doubles
 
   abbrev stored : ℕ → Layer
-  stored j = storedLayer (getD (p .references) j 0) (getD (p .exponents) j (pos 0))
+  stored j = layerAt widths (p .references) (p .exponents) j
 
-  a : Asked mark L vs
-  a = all-asked mark L vs codes references exponents packs
+  a : Asked mark L widths vs
+  a = all-asked mark L widths vs codes references exponents packs
 
-  claim : PackClaim cs mark ws L p
-  claim = demand-3 .packing cs mark ws some kind L codes references exponents packs
+  claim : PackClaim cs mark ws L widths p
+  claim = demand-3 .packing cs mark ws some kind L widths codes references exponents packs
 
   same : length vs ≡ length ws
   same = list-claim 23 8 cs mark ws .as-long
 
   full : length ws / L * L ≡ length ws
-  full = rw same at (in-layers mark L vs codes references exponents packs)
+  full = rw same at (in-layers mark L widths vs codes references exponents packs)
+
+  widths-long : length widths ≡ length ws / L
+  widths-long = rw same at (a .one-width)
 
   module _ (j : ℕ) (h : j < length ws / L) where
     abbrev part : List ℕ
     part = take L (drop (j * L) vs)
 
+    abbrev width : ℕ
+    width = getD widths j 0
+
     in-vs : j < length vs / L
     in-vs = rw same h
 
-    layer-is : stored j ≡ layer mark part
-    layer-is = stored-at mark L vs codes references exponents packs j in-vs
+    layer-is : stored j ≡ layer mark width part
+    layer-is = stored-at mark L widths vs codes references exponents packs j in-vs
+
+    known : widthInRange width ≡ true
+    known = all-at widthInRange widths (a .widths-known) j (rw widths-long h)
+
+    width-least : 2 ≤ width
+    width-least = leb-true 2 width (and-first (leb 2 width) (leb width 16) known)
+
+    width-most : width ≤ 16
+    width-most = leb-true width 16 (and-second (leb 2 width) (leb width 16) known)
 
     packable : Packable 23 8 mark part
-    packable = part-packable mark L vs codes references exponents packs j in-vs
+    packable = part-packable mark L widths vs codes references exponents packs j in-vs
 
-    layer-finite : finite 23 8 (layer mark part .reference) ≡ true
-    layer-finite = reference-finite mark part (λ i k n. below-finite 23 8 (getD part i 0) (packable i k n))
+    layer-finite : finite 23 8 (layer mark width part .reference) ≡ true
+    layer-finite = reference-finite mark width part (λ i k n. below-finite 23 8 (getD part i 0) (packable i k n))
 
     finite-at : finite 23 8 (getD (p .references) j 0) ≡ true
     unfolding storedLayer
     finite-at = ap (λ (l : Layer). finite 23 8 (l .reference)) layer-is ∙ layer-finite
 
-    few-steps : layer mark part .exponent ≤ 263
-    few-steps = let held = singles-held mark part packable in layer-least 23 8 16 263 mark part held 263 held
+    few-steps : layer mark width part .exponent ≤ 277
+    few-steps = let held = singles-held mark width part width-least packable in layer-least 23 8 277 mark width part held 277 held
 
     in-layer : (i : ℕ) → i < L
         → let c = getD (p .codes) (j * L + i) 0 in
-        SentDouble mark doubleMark (acceptedCalls 23 8 cs) (getD ws (j * L + i) 0) (stored j) c (unpackedCode 16 doubleMark (stored j) c)
+        SentDouble mark doubleMark (acceptedCalls 23 8 cs) (getD ws (j * L + i) 0) (stored j) c (unpackedCode doubleMark (stored j) c)
+    unfolding layerOf
     in-layer i k =
-        let b : j * L + i < length vs = omega (arith, room mark L vs codes references exponents packs j in-vs) in
+        let b : j * L + i < length vs = omega (arith, room mark L widths vs codes references exponents packs j in-vs) in
         rw layer-is
-        (sent-double mark doubleMark (acceptedCalls 23 8 cs) (layer mark part) (getD ws (j * L + i) 0) (getD vs (j * L + i) 0) (getD (p .codes) (j * L + i) 0)
-        (list-claim 23 8 cs mark ws .each-place some kind (j * L + i) (omega (arith, same))) (coded-at mark L vs codes references exponents packs j in-vs i k)
-        (a .packable (j * L + i) b) layer-finite few-steps nan)
+        (sent-double mark doubleMark (acceptedCalls 23 8 cs) (layer mark width part) (getD ws (j * L + i) 0) (getD vs (j * L + i) 0) (getD (p .codes) (j * L + i) 0)
+        (list-claim 23 8 cs mark ws .each-place some kind (j * L + i) (omega (arith, same))) width-least width-most
+        (coded-at mark L widths vs codes references exponents packs j in-vs i k) (a .packable (j * L + i) b) layer-finite few-steps nan)
+
+    -- the layer's part of the codes
+    abbrev own : List ℕ
+    own = take L (drop (j * L) (p .codes))
+
+    own-long : length own ≡ L
+    own-long = length-take-le L (drop (j * L) (p .codes)) (simp length-drop (omega (arith, claim .codes-long, full, mul-le-mul-right L h)))
+
+    own-at : (i : ℕ) → i < L → getD own i 0 ≡ getD (p .codes) (j * L + i) 0
+    own-at i k = getD-take L (drop (j * L) (p .codes)) i 0 k ∙ getD-drop (j * L) (p .codes) i 0
+
+    -- no code is above the missing one
+    codes-known : inRange width own ≡ true
+    unfolding layerOf
+    codes-known = all-pass (codeInRange width) 0 own (λ i k. rw (own-at i (rw own-long at k)) (le-leb _ (missingCode width) (at-most i (rw own-long at k))))
+      where
+        at-most : (i : ℕ) → i < L → getD (p .codes) (j * L + i) 0 ≤ missingCode width
+        at-most i k = go (ℕ-discrete (getD vs (j * L + i) 0) mark)
+          where
+            r : CodedIn 23 8 mark (layer mark width part) (getD vs (j * L + i) 0) (getD (p .codes) (j * L + i) 0)
+            r = coded-at mark L widths vs codes references exponents packs j in-vs i k
+
+            go : Dec (getD vs (j * L + i) 0 ≡ mark) → getD (p .codes) (j * L + i) 0 ≤ missingCode width
+            go (yes e) = omega (arith, r .missing-code e)
+            go (no e) = omega (arith, r .other-code e, codes-apart width (omega (arith, width-least)))
+
+  all-known : all (λ good. good) (zipWith inRange widths (runs L (length ws / L) (p .codes))) ≡ true
+  all-known =
+      all-pass (λ good. good) true (zipWith inRange widths (runs L (length ws / L) (p .codes))) (λ j h.
+      let k : j < length ws / L = rw (zip-length L 0 inRange (length ws / L) widths (p .codes) widths-long) at h in
+      zip-at L 0 inRange true (length ws / L) j widths (p .codes) widths-long k ∙ codes-known j k)
 
   -- every question of the unpacking
   answer-is : u .answer ≡ accepted tt
-  unfolding unpack unpackQuestions layerQuestions ask
+  unfolding unpack unpackQuestions layerQuestions ask all layers
   answer-is =
       rw (
         claim .codes-long,
         claim .references-long,
         claim .exponents-long,
         long,
+        widths-long,
         le-leb 1 L (a .some),
         le-leb L 65536 (a .most),
         rw same at (a .whole),
         eq-eqb (length ws) (length ws) refl,
         eq-eqb (length ws / L) (length ws / L) refl,
+        a .widths-known,
         all-pass (finite 23 8) 0 (p .references) (λ j h. finite-at j (rw (claim .references-long) at h)),
-        all-pass (λ e. between (negℤ (pos 149)) e (pos 114)) (pos 0) (p .exponents) (λ j h. claim .each-layer j (rw (claim .exponents-long) at h) .in-range),
+        all-pass exponentInRange (pos 0) (p .exponents) (λ j h. claim .each-layer j (rw (claim .exponents-long) at h) .in-range),
         nan,
+        all-known,
       )
       refl
 
-  readings-are : u .readings ≡ made L (unpackedCode 16 doubleMark) (length ws / L) (p .references) (p .exponents) (p .codes)
+  abbrev ls : List Layer
+  ls = storedLayers widths (p .references) (p .exponents)
+
+  abbrev unpackedPart : Layer → List ℕ → List ℕ
+  unpackedPart l own = map (unpackedCode doubleMark l) own
+
+  part-long : (l : Layer) (own : List ℕ) → length (unpackedPart l own) ≡ length own
+  part-long l own = length-map own (unpackedCode doubleMark l)
+
+  readings-are : u .readings ≡ flatten (zipWith unpackedPart ls (runs L (length ws / L) (p .codes)))
   unfolding unpack leaving unpackedCodes layers
   readings-are = rw (answer-is, claim .codes-long) refl
 
-  unpack-claim : UnpackClaim cs mark ws L p doubleMark u
+  unpack-claim : UnpackClaim cs mark ws L widths p doubleMark u
   unpack-claim =
       record {
         is-accepted = answer-is;
-        doubles-long =
-            ap length readings-are
-            ∙ made-long L (unpackedCode 16 doubleMark) (length ws / L) (p .references) (p .exponents) (p .codes) references-enough exponents-enough codes-enough ∙ full;
+        doubles-long = ap length readings-are ∙ flat-length L none unpackedPart part-long (length ws / L) ls (p .codes) ls-long codes-enough ∙ full;
         each-double = λ i h.
             subst (Sent (i / L)) (div-add-mod' i L) (place (i / L) (i % L) (div-lt-iff-lt-mul {k = L} {x = i} {y = length ws / L} (a .some) .1 (omega (arith, full))) (mod-lt i (a .some)));
       }
     where
-      references-enough : length ws / L ≤ length (p .references)
-      references-enough = omega (arith, claim .references-long)
+      none : Layer
+      none = record { width = 0; reference = 0; exponent = 0 }
 
-      exponents-enough : length ws / L ≤ length (p .exponents)
-      exponents-enough = omega (arith, claim .exponents-long)
+      references-long : length widths ≡ length (p .references)
+      references-long = widths-long ∙ sym (claim .references-long)
+
+      exponents-long : length widths ≡ length (p .exponents)
+      exponents-long = widths-long ∙ sym (claim .exponents-long)
+
+      ls-long : length ls ≡ length ws / L
+      ls-long = layers-long widths (p .references) (p .exponents) references-long exponents-long ∙ widths-long
 
       codes-enough : length ws / L * L ≤ length (p .codes)
       codes-enough = omega (arith, full, claim .codes-long)
@@ -283,14 +340,16 @@ module _ (cs : List Call) (mark : ℕ) (ws : List ℕ) (some : 0 < length (accep
       Sent : ℕ → ℕ → Type 0
       Sent j x = SentDouble mark doubleMark (acceptedCalls 23 8 cs) (getD ws x 0) (stored j) (getD (p .codes) x 0) (getD (u .readings) x 0)
 
-      -- place i of layer j
+      -- what stands at place i of layer j
+      double-at : (j i : ℕ) (h : j < length ws / L) → i < L → getD (u .readings) (j * L + i) 0 ≡ unpackedCode doubleMark (stored j) (getD (p .codes) (j * L + i) 0)
+      double-at j i h k =
+          ap (λ (x : List ℕ). getD x (j * L + i) 0) readings-are
+          ∙ flat-at L none unpackedPart part-long (length ws / L) j i ls (p .codes) ls-long codes-enough h k
+          ∙ ap (λ (l : Layer). getD (unpackedPart l (own j h)) i 0) (layers-at widths (p .references) (p .exponents) references-long exponents-long none j (rw widths-long h))
+          ∙ map-at (unpackedCode doubleMark (stored j)) 0 0 (own j h) i (rw (own-long j h) k) ∙ ap (unpackedCode doubleMark (stored j)) (own-at j h i k)
+
       place : (j i : ℕ) → j < length ws / L → i < L → Sent j (j * L + i)
-      place j i h k =
-          rw (
-            readings-are,
-            made-at L (unpackedCode 16 doubleMark) (length ws / L) j i (p .references) (p .exponents) (p .codes) references-enough exponents-enough codes-enough h k,
-          )
-          (in-layer j h i k)
+      place j i h k = rw (double-at j i h k) (in-layer j h i k)
 
 pub sent-unpacked : SentUnpacked
 sent-unpacked = record { sent-unpacked = unpack-claim }

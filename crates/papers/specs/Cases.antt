@@ -52,9 +52,11 @@ pub record Attained : Type 0 where
   pub halfshave-relative : by (tail halfshave 7) 0 0x3F800000 * 2 ^ 8 ≡ sizeAt 0x3F800000
   -- 3 to one digit, where q is 1, moves by half of it (002, equation 2)
   pub digits-half : 2 * by (digits 1) 0 0x40400000 ≡ digitStep 23 8 1 0x40400000
-  -- in the layer 00000000, 0000FFFF (P12) the larger reading's code lies half a step from it
+  -- in the layer 00000000, 0000FFFF of width 16 (P12) the larger reading's code lies half a step from it; so it does in 00000000, 00000003 of width 2
   pub pack-half :
-      2 * distance (position 23 8 0x0000FFFF) (meaningAt 0x7CF00000 (0x00000000 ∷ 0x0000FFFF ∷ []) 1) ≡ 2 ^ layer 0x7CF00000 (0x00000000 ∷ 0x0000FFFF ∷ []) .exponent
+      2 * distance (position 23 8 0x0000FFFF) (meaningAt 0x7CF00000 16 (0x00000000 ∷ 0x0000FFFF ∷ []) 1) ≡ 2 ^ layer 0x7CF00000 16 (0x00000000 ∷ 0x0000FFFF ∷ []) .exponent
+  pub pack-half-narrow :
+      2 * distance (position 23 8 0x00000003) (meaningAt 0x7CF00000 2 (0x00000000 ∷ 0x00000003 ∷ []) 1) ≡ 2 ^ layer 0x7CF00000 2 (0x00000000 ∷ 0x00000003 ∷ []) .exponent
 
 -- With the unit at the figure left, with 7 keep bits
 pub record LeftCases : Type 0 where
@@ -138,14 +140,16 @@ pub record ListingsBeyond : Type 0 where
   pub A4-largest : addedMasked 16 0x7F7FFFFF ≡ 0x7F800000
   pub A4-nan : addedMasked 16 0x7FFFFFFF ≡ 0x80000000
 
--- The largest value of a layer may lie beyond it, by at most half a step: of 003's humidities, section 6, from 0 to 0.99999535, the larger is packed as 1.
+-- The largest value of a layer may lie beyond it, by at most half a step: of 003's humidities, section 6, from 0 to 0.99999535, the larger is packed as 1, in
+-- 16 bits and in 2.
 pub record LayerTop : Type 0 where
-  pub top-beyond : meaningAt 0x7CF00000 (0x00000000 ∷ 0x3F7FFFB2 ∷ []) 1 ≡ position 23 8 0x3F800000
+  pub top-beyond : meaningAt 0x7CF00000 16 (0x00000000 ∷ 0x3F7FFFB2 ∷ []) 1 ≡ position 23 8 0x3F800000
+  pub top-beyond-narrow : meaningAt 0x7CF00000 2 (0x00000000 ∷ 0x3F7FFFB2 ∷ []) 1 ≡ position 23 8 0x3F800000
 
 -- `sent-near` in Unpacked.antt fails without the double's spacing. R is 00000001, E is -89 and the code 1: the double is 2 ^ -89, and R is lost. 13400001, one spacing above
 -- 2 ^ -89 and half a step, is such a reading for a list with the unit of one spacing.
 abbrev tiny : Layer
-tiny = record { reference = 0x00000001; exponent = 60 }
+tiny = record { width = 16; reference = 0x00000001; exponent = 60 }
 
 pub record DoubleBeyond : Type 0 where
   pub still-coded : Coded 0x7CF00000 (round 23 ∷ []) 0x13400001 tiny 1

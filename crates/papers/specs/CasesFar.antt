@@ -9,8 +9,8 @@ use lib.IntN.{ℤ, pos, negℤ}
 use lib.ListN.{length}
 use Rattle.meaning.specs.Readings.{size, magnitude, finite, magnitudeOf, origin, distance}
 use Rattle.meaning.specs.Methods.{Method}
-use Rattle.meaning.specs.Layers.{Layer, codeMeaning}
-use Rattle.meaning.specs.Questions.{between, all}
+use Rattle.meaning.specs.Layers.{Layer, missingCode, codeMeaning}
+use Rattle.meaning.specs.Questions.{all, widthInRange, exponentInRange}
 use Rattle.meaning.specs.Calls.{Call, acceptedCalls, largestUnit, storedLayer}
 use Rattle.meaning.specs.Claim.{oneKind}
 
@@ -26,8 +26,9 @@ pub data Row : Type 0 where
   far : ℕ → ℕ → List Call → ℕ → ℕ → Row
   -- F, X, the calls: demand 3 gives no bound
   none : ℕ → ℕ → List Call → Row
-  -- the calls, R, E, the code, u: the largest unit at the size that this code and step can stand for is 2 ^ u (`near-left` of `Coded`); half a step is to be added
-  packed : List Call → ℕ → ℤ → ℕ → ℕ → Row
+  -- the calls, the layer's width, R, E, the code, u: the largest unit at the size that this code and step can stand for is 2 ^ u (`near-left` of `Coded`); half a step is to be
+  -- added
+  packed : List Call → ℕ → ℕ → ℤ → ℕ → ℕ → Row
   -- F, X, the pattern left, u: the lowest one bit of the size left is 2 ^ u (`lowest-bit` of one digits call)
   bit : ℕ → ℕ → ℕ → ℕ → Row
 
@@ -42,9 +43,9 @@ mostOf l c = distance (codeMeaning 23 8 l c) (origin 23 8) + 2 ^ l .exponent / 2
 unfoldable pub right : Row → Bool
 right (far F X cs left u) = bounded (acceptedCalls F X cs) && finite F X left && eqb (largestUnit F (acceptedCalls F X cs) (magnitude F X left)) (2 ^ u)
 right (none F X cs) = not (bounded (acceptedCalls F X cs))
-right (packed cs r e c u) =
-    bounded (acceptedCalls 23 8 cs) && finite 23 8 r && between (neg 149) e (pos 114) && ltb c 65535
-    && eqb (largestUnit 23 (acceptedCalls 23 8 cs) (magnitudeOf 23 8 (mostOf (storedLayer r e) c))) (2 ^ u)
+right (packed cs w r e c u) =
+    bounded (acceptedCalls 23 8 cs) && widthInRange w && finite 23 8 r && exponentInRange e && ltb c (missingCode w)
+    && eqb (largestUnit 23 (acceptedCalls 23 8 cs) (magnitudeOf 23 8 (mostOf (storedLayer w r e) c))) (2 ^ u)
 right (bit F X left u) = finite F X left && eqb (size F (magnitude F X left) % 2 ^ suc u) (2 ^ u)
 
 unfoldable pub table : List Row
@@ -127,32 +128,53 @@ table =
     ∷ none 52 11 (call 5 (pos 3) ∷ call 2 (pos 0) ∷ call 7 (pos 0) ∷ call 5 (pos 4) ∷ [])
     ∷ none 52 11 (call 4 (pos 7) ∷ call 6 (pos 8) ∷ [])
     ∷ none 23 8 (call 0 (pos 24) ∷ call 1 (neg 1) ∷ call 2 (pos 24) ∷ call 3 (pos 100) ∷ call 255 (pos 0) ∷ call 6 (pos 8) ∷ [])
-    ∷ packed (call 4 (pos 8) ∷ call 4 (pos 7) ∷ []) 1023410176 (neg 5) 32 142
-    ∷ packed (call 4 (pos 7) ∷ []) 1092616192 (neg 14) 8192 145
-    ∷ packed (call 0 (pos 23) ∷ []) 0 (neg 149) 65534 0
-    ∷ packed (call 4 (pos 7) ∷ []) 3240099840 (neg 5) 320 136
-    ∷ packed (call 4 (pos 7) ∷ []) 3212836864 (pos 0) 2 142
-    ∷ packed (call 1 (pos 5) ∷ []) 1065353215 (neg 23) 0 144
-    ∷ packed (call 1 (pos 5) ∷ []) 1065353215 (neg 24) 0 143
-    ∷ packed (call 5 (pos 127) ∷ []) 4286578687 (pos 114) 32768 276
-    ∷ packed (call 5 (neg 149) ∷ call 4 (pos 23) ∷ []) 4286578687 (pos 114) 0 254
-    ∷ packed (call 4 (pos 5) ∷ call 5 (pos 0) ∷ []) 1 (pos 114) 65534 273
-    ∷ packed (call 2 (pos 5) ∷ call 7 (pos 3) ∷ call 3 (pos 9) ∷ []) 2147483648 (neg 45) 14681 112
-    ∷ packed (call 5 (neg 149) ∷ call 4 (pos 0) ∷ call 4 (pos 5) ∷ []) 1023410176 (neg 14) 1 144
-    ∷ packed (call 4 (pos 12) ∷ call 4 (pos 9) ∷ []) 2738464021 (neg 130) 64856 83
-    ∷ packed (call 4 (pos 2) ∷ []) 3271426048 (neg 27) 32768 153
-    ∷ packed (call 3 (pos 7) ∷ call 2 (pos 11) ∷ call 2 (pos 16) ∷ []) 1 (neg 149) 1 16
-    ∷ packed (call 1 (pos 7) ∷ []) 3240099840 (pos 114) 65534 271
-    ∷ packed (call 3 (pos 0) ∷ call 0 (pos 3) ∷ call 1 (pos 5) ∷ []) 1023410176 (neg 126) 65534 144
-    ∷ packed (call 3 (pos 23) ∷ call 2 (pos 9) ∷ call 2 (pos 23) ∷ []) 723418909 (neg 89) 42696 99
-    ∷ packed (call 5 (neg 150) ∷ call 4 (pos 23) ∷ call 4 (pos 23) ∷ []) 3752968828 (neg 89) 1 190
-    ∷ packed (call 7 (pos 3) ∷ call 4 (pos 5) ∷ []) 3580391257 (neg 24) 0 187
-    ∷ packed (call 5 (neg 19) ∷ []) 0 (pos 65) 30003 130
-    ∷ packed (call 1 (pos 7) ∷ call 3 (pos 7) ∷ call 1 (pos 23) ∷ []) 3240099840 (neg 126) 1 145
-    ∷ packed (call 5 (neg 149) ∷ []) 962590687 (pos 31) 8192 0
-    ∷ packed (call 4 (pos 13) ∷ call 4 (pos 0) ∷ call 4 (pos 5) ∷ []) 2139095039 (neg 20) 374 276
-    ∷ packed (call 5 (neg 4) ∷ call 5 (neg 149) ∷ []) 2360173062 (neg 126) 4023 145
-    ∷ packed (call 5 (pos 128) ∷ call 3 (pos 5) ∷ call 0 (pos 11) ∷ call 3 (pos 0) ∷ []) 1896581598 (pos 96) 8192 258
+    ∷ packed (call 4 (pos 8) ∷ call 4 (pos 7) ∷ []) 16 1023410176 (neg 5) 32 142
+    ∷ packed (call 4 (pos 7) ∷ []) 16 1092616192 (neg 14) 8192 145
+    ∷ packed (call 0 (pos 23) ∷ []) 16 0 (neg 149) 65534 0
+    ∷ packed (call 4 (pos 7) ∷ []) 16 3240099840 (neg 5) 320 136
+    ∷ packed (call 4 (pos 7) ∷ []) 16 3212836864 (pos 0) 2 142
+    ∷ packed (call 1 (pos 5) ∷ []) 16 1065353215 (neg 23) 0 144
+    ∷ packed (call 1 (pos 5) ∷ []) 16 1065353215 (neg 24) 0 143
+    ∷ packed (call 5 (pos 127) ∷ []) 16 4286578687 (pos 114) 32768 276
+    ∷ packed (call 5 (neg 149) ∷ call 4 (pos 23) ∷ []) 16 4286578687 (pos 114) 0 254
+    ∷ packed (call 4 (pos 5) ∷ call 5 (pos 0) ∷ []) 16 1 (pos 114) 65534 273
+    ∷ packed (call 2 (pos 5) ∷ call 7 (pos 3) ∷ call 3 (pos 9) ∷ []) 16 2147483648 (neg 45) 14681 112
+    ∷ packed (call 5 (neg 149) ∷ call 4 (pos 0) ∷ call 4 (pos 5) ∷ []) 16 1023410176 (neg 14) 1 144
+    ∷ packed (call 4 (pos 12) ∷ call 4 (pos 9) ∷ []) 16 2738464021 (neg 130) 64856 83
+    ∷ packed (call 4 (pos 2) ∷ []) 16 3271426048 (neg 27) 32768 153
+    ∷ packed (call 3 (pos 7) ∷ call 2 (pos 11) ∷ call 2 (pos 16) ∷ []) 16 1 (neg 149) 1 16
+    ∷ packed (call 1 (pos 7) ∷ []) 16 3240099840 (pos 114) 65534 271
+    ∷ packed (call 3 (pos 0) ∷ call 0 (pos 3) ∷ call 1 (pos 5) ∷ []) 16 1023410176 (neg 126) 65534 144
+    ∷ packed (call 3 (pos 23) ∷ call 2 (pos 9) ∷ call 2 (pos 23) ∷ []) 16 723418909 (neg 89) 42696 99
+    ∷ packed (call 5 (neg 150) ∷ call 4 (pos 23) ∷ call 4 (pos 23) ∷ []) 16 3752968828 (neg 89) 1 190
+    ∷ packed (call 7 (pos 3) ∷ call 4 (pos 5) ∷ []) 16 3580391257 (neg 24) 0 187
+    ∷ packed (call 5 (neg 19) ∷ []) 16 0 (pos 65) 30003 130
+    ∷ packed (call 1 (pos 7) ∷ call 3 (pos 7) ∷ call 1 (pos 23) ∷ []) 16 3240099840 (neg 126) 1 145
+    ∷ packed (call 5 (neg 149) ∷ []) 16 962590687 (pos 31) 8192 0
+    ∷ packed (call 4 (pos 13) ∷ call 4 (pos 0) ∷ call 4 (pos 5) ∷ []) 16 2139095039 (neg 20) 374 276
+    ∷ packed (call 5 (neg 4) ∷ call 5 (neg 149) ∷ []) 16 2360173062 (neg 126) 4023 145
+    ∷ packed (call 5 (pos 128) ∷ call 3 (pos 5) ∷ call 0 (pos 11) ∷ call 3 (pos 0) ∷ []) 16 1896581598 (pos 96) 8192 258
+    ∷ packed (call 4 (pos 7) ∷ []) 2 1092616192 (pos 0) 2 145
+    ∷ packed (call 4 (pos 7) ∷ call 4 (pos 5) ∷ []) 4 1092616192 (neg 2) 8 147
+    ∷ packed (call 0 (pos 5) ∷ call 2 (pos 9) ∷ []) 8 1092616192 (neg 6) 32 147
+    ∷ packed (call 5 (neg 3) ∷ call 4 (pos 11) ∷ []) 15 1092616192 (neg 13) 16384 146
+    ∷ packed (call 4 (pos 7) ∷ []) 2 4286578687 (pos 128) 0 270
+    ∷ packed (call 5 (pos 127) ∷ []) 2 4286578687 (pos 128) 1 276
+    ∷ packed (call 4 (pos 0) ∷ call 5 (neg 149) ∷ []) 2 4286578687 (pos 128) 2 277
+    ∷ packed (call 1 (pos 5) ∷ call 3 (pos 9) ∷ []) 4 4286578687 (pos 126) 8 272
+    ∷ packed (call 4 (pos 9) ∷ call 4 (pos 53) ∷ []) 8 4286578687 (pos 122) 128 268
+    ∷ packed (call 4 (pos 12) ∷ []) 15 4286578687 (pos 115) 16384 265
+    ∷ packed (call 0 (pos 0) ∷ []) 2 0 (neg 149) 2 23
+    ∷ packed (call 2 (pos 7) ∷ []) 4 1023410176 (neg 5) 14 140
+    ∷ packed (call 5 (pos 0) ∷ call 7 (pos 3) ∷ call 4 (pos 9) ∷ []) 8 3240099840 (neg 3) 254 149
+    ∷ packed (call 3 (pos 3) ∷ []) 15 1 (neg 149) 32766 20
+    ∷ packed (call 4 (pos 23) ∷ []) 2 1 (neg 89) 1 37
+    ∷ packed (call 1 (pos 23) ∷ call 0 (pos 20) ∷ []) 15 2147483649 (pos 60) 3 190
+    ∷ packed (call 4 (pos 4) ∷ []) 2 2139095039 (pos 128) 2 274
+    ∷ packed (call 4 (pos 7) ∷ []) 16 4286578687 (pos 128) 1 269
+    ∷ packed (call 5 (neg 20) ∷ []) 3 3296329728 (pos 8) 5 129
+    ∷ packed (call 4 (pos 23) ∷ []) 5 1065353216 (neg 28) 17 126
+    ∷ packed (call 2 (pos 0) ∷ []) 12 8388608 (neg 130) 4094 31
     ∷ bit 23 8 1 0
     ∷ bit 23 8 8388607 0
     ∷ bit 23 8 8388608 23

@@ -1,5 +1,5 @@
--- All claims, in the papers' order: for every width, and so for singles and doubles; then the layers of singles and the cases.
-use Prim.Native.Nat.{ℕ}
+-- All claims, in the papers' order: for every width, and so for singles and doubles; then the layers of singles, of every width of codes, and the cases.
+use Prim.Native.Nat.{ℕ, _≤_}
 use Rattle.papers.specs.Bounds.{UnitBounds, LeftBounds, RelativeBounds}
 use Rattle.papers.specs.Decimal.{KeepBits, DecimalBounds}
 use Rattle.papers.specs.DigitRounding.{DigitBounds}
@@ -29,7 +29,7 @@ pub record Papers : Type 0 where
   pub every-width : (F X : ℕ) → Claims F X
   pub unbiased : Unbiased
   pub keep-bits : KeepBits
-  pub layers : LayerBounds
+  pub layers : (w : ℕ) → 2 ≤ w → LayerBounds w
   pub unpacked : Unpacked
   pub sent-unpacked : SentUnpacked
   pub pi-tables : PiTables

@@ -3,14 +3,15 @@ use mathlib.Core.Path.{_≡_, refl, sym, ap, _∙_}
 use mathlib.Core.Logic.{inl, inr}
 use mathlib.Core.Bool.{Bool, true, false}
 use Prim.Native.Nat.{ℕ, zero, _+_, _-_, _*_, _%_, _^_, _≤_, _<_}
-use native.Mathlib.Nat.{lt-of-mul-lt-mul-right, mul-assoc, zero-mul, mul-sub, mul-comm}
+use native.Mathlib.Nat.{lt-of-mul-lt-mul-right, mul-assoc, zero-mul, mul-sub, mul-comm, mul-le-mul-right}
 use native.Mathlib.Decide.{decLe}
 use native.Mathlib.Omega.{arith}
 use lib.Dec.{leb}
-use lib.Pow.{pow-pos, pow-mono}
+use lib.Pow.{pow-pos, pow-mono, pow-add}
 use lib.Ieee.{binary32, binary64, ofBits, toBits, add, sub}
 use Rattle.meaning.specs.Readings.{spacingExp, size, sign, magnitude, infinity, origin, position}
 use Rattle.meaning.specs.Methods.{nearest}
+use Rattle.meaning.specs.Layers.{lastCode}
 use Rattle.meaning.proofs.Powers.{pow-split}
 use Rattle.meaning.proofs.Sizes.{Form, form, size-form, size-small}
 use Rattle.meaning.proofs.Patterns.{below-finite, size-below, position-plus, position-minus}
@@ -36,20 +37,27 @@ coarse-whole j w (inr (n, l)) =
       is = size-form 23 m f ∙ ap (λ (y : ℕ). f .sig * y) (pow-split (spacingExp 23 m) j l) ∙ sym (mul-assoc (f .sig) (2 ^ (spacingExp 23 m - j)) (2 ^ j));
     }
 
--- a multiple of 2 ^ (e - 37) that is at most 65,534 steps of 2 ^ e has few digits
-short : (e n : ℕ) → e ≤ 263 → n ≤ 65534 * 2 ^ e → Whole (e - 37) n → Short n
-short e n k h w =
+-- a multiple of 2 ^ (e + b - 53) that is at most the steps of 2 ^ e of a width b has few digits
+short : (b e n : ℕ) → b ≤ 16 → e ≤ 277 → n ≤ lastCode b * 2 ^ e → Whole (e + b - 53) n → Short n
+unfolding lastCode
+short b e n l k h w =
     record {
       digits = w .times;
-      shift = e - 37;
+      shift = e + b - 53;
       is = w .is;
-      few = lt-of-mul-lt-mul-right (2 ^ (e - 37)) (omega (arith, w .is, wide (decLe 37 e), pow-pos (e - 37)));
+      few = lt-of-mul-lt-mul-right (2 ^ (e + b - 53)) (omega (arith, w .is, top, wide (decLe 53 (e + b)), pow-pos e));
       near = omega arith;
     }
   where
-    wide : Dec (37 ≤ e) → 2 ^ e ≤ 2 ^ 37 * 2 ^ (e - 37)
-    wide (yes l) = omega (arith, pow-split e 37 l)
-    wide (no l) = omega (arith, pow-mono {i = e} {j = 37} (omega arith), pow-pos (e - 37))
+    top : (2 ^ b - 2) * 2 ^ e + 2 ^ e ≤ 2 ^ (e + b)
+    top =
+        let p : 2 ^ (e + b) ≡ 2 ^ b * 2 ^ e = pow-add 2 e b ∙ mul-comm (2 ^ e) (2 ^ b) in
+        let q : (2 ^ b - 2 + 1) * 2 ^ e ≤ 2 ^ b * 2 ^ e = mul-le-mul-right (2 ^ e) (omega (arith, pow-pos b)) in
+        omega (arith, p, q)
+
+    wide : Dec (53 ≤ e + b) → 2 ^ (e + b) ≤ 2 ^ 53 * 2 ^ (e + b - 53)
+    wide (yes x) = omega (arith, pow-split (e + b) 53 x)
+    wide (no x) = omega (arith, pow-mono {i = e + b} {j = 53} (omega arith), pow-pos (e + b - 53))
 
 sum-whole : (j a b n : ℕ) → n ≡ a + b → Whole j a → Whole j b → Whole j n
 sum-whole j a b n e u v = record { times = u .times + v .times; is = omega (arith, u .is, v .is) }
@@ -66,7 +74,7 @@ minus-whole j a b n e u v =
 
 -- ---- two readings
 
-module _ (w r e : ℕ) (c : CanCode w r e) (fr : magnitude 23 8 r < infinity 23 8) (few : e ≤ 263) (cw : Coarse (e - 37) w) (cr : Coarse (e - 37) r) where
+module _ (b' w r e : ℕ) (wide : b' ≤ 16) (c : CanCode w r e) (held : position 23 8 w - position 23 8 r ≤ lastCode b' * 2 ^ e) (fr : magnitude 23 8 r < infinity 23 8) (few : e ≤ 277) (cw : Coarse (e + b' - 53) w) (cr : Coarse (e + b' - 53) r) where
   abbrev a : ℕ
   a = size 23 (magnitude 23 8 w)
 
@@ -91,11 +99,11 @@ module _ (w r e : ℕ) (c : CanCode w r e) (fr : magnitude 23 8 r < infinity 23 
       let y = position-plus 23 8 r (sign-plus r q) in
       (omega (arith, al, bl, c .above), omega (arith, al, bl, c .above), omega (arith, al, bl, c .above))
 
-  whole : (s t : Bool) → Gap s t a b n → Whole (e - 37) n
-  whole false false g = minus-whole (e - 37) a b n g (coarse-whole (e - 37) w cw) (coarse-whole (e - 37) r cr)
-  whole false true g = sum-whole (e - 37) a b n g (coarse-whole (e - 37) w cw) (coarse-whole (e - 37) r cr)
-  whole true true g = minus-whole (e - 37) b a n g (coarse-whole (e - 37) r cr) (coarse-whole (e - 37) w cw)
-  whole true false g = record { times = 0; is = g .2 ∙ sym (zero-mul (2 ^ (e - 37))) }
+  whole : (s t : Bool) → Gap s t a b n → Whole (e + b' - 53) n
+  whole false false g = minus-whole (e + b' - 53) a b n g (coarse-whole (e + b' - 53) w cw) (coarse-whole (e + b' - 53) r cr)
+  whole false true g = sum-whole (e + b' - 53) a b n g (coarse-whole (e + b' - 53) w cw) (coarse-whole (e + b' - 53) r cr)
+  whole true true g = minus-whole (e + b' - 53) b a n g (coarse-whole (e + b' - 53) r cr) (coarse-whole (e + b' - 53) w cw)
+  whole true false g = record { times = 0; is = g .2 ∙ sym (zero-mul (2 ^ (e + b' - 53))) }
 
   differ : Apart (sub binary64 (ofBits binary32 w) (ofBits binary32 r)) n
   differ =
@@ -103,7 +111,7 @@ module _ (w r e : ℕ) (c : CanCode w r e) (fr : magnitude 23 8 r < infinity 23 
       let t = leb (2 ^ 31) r in
       let g : Gap s t a b n = gap s t refl refl in
       apart (ofBits binary32 w) (ofBits binary32 r) s t a b n (bits-value binary32 w (below-finite 23 8 w (c .finite))) (bits-value binary32 r (below-finite 23 8 r fr)) g
-      (short e n few (c .holds) (whole s t g))
+      (short b' e n wide few held (whole s t g))
 
   pub quick-code : toBits binary64 (add binary64 (sub binary64 (ofBits binary32 w) (ofBits binary32 r)) (ofBits binary64 ((e + 926) * 2 ^ 52))) % 65536
       ≡ nearest (position 23 8 w - position 23 8 r) (2 ^ e)

@@ -78,7 +78,7 @@ pub record Short (n : ℕ) : Type 0 where
   pub shift : ℕ
   pub is : n ≡ digits * 2 ^ shift
   pub few : digits < 2 ^ 53
-  pub near : shift ≤ 263
+  pub near : shift ≤ 277
 
 short-exact : (s : Bool) (n : ℕ) → Short n → HasValue (round binary64 s n (2 ^ 149)) s n (2 ^ 149)
 short-exact s n h =
@@ -136,7 +136,7 @@ infinity-is : infinity 52 11 ≡ 2047 * 2 ^ 52
 unfolding infinity
 infinity-is = refl
 
-module _ (e n : ℕ) (few : e ≤ 263) (h : n ≤ 65534 * 2 ^ e) (y : Float) (vy : HasValue y false (2 ^ 52 * 2 ^ (e + 925)) (2 ^ 1074)) where
+module _ (e n : ℕ) (few : e ≤ 277) (h : n ≤ 65534 * 2 ^ e) (y : Float) (vy : HasValue y false (2 ^ 52 * 2 ^ (e + 925)) (2 ^ 1074)) where
   abbrev K : ℕ
   K = nearest n (2 ^ e)
 

@@ -37,16 +37,20 @@ end mark xs least i h inv = omega (arith, inv .0, rw (drop-of-length-le xs h) at
 
 -- ---- coarse readings
 
--- a magnitude from the limit on
-large-coarse : (e w : ℕ) → (e - 37 + 1) * 8388608 ≤ w % 2147483648 → Coarse (e - 37) w
+-- a magnitude from the limit on; here e is a step's exponent plus the width
+large-coarse : (e w : ℕ) → (e - 53 + 1) * 8388608 ≤ w % 2147483648 → Coarse (e - 53) w
 unfolding magnitude spacingExp exponentField
 large-coarse e w h =
-    let q : e - 37 + 1 ≤ w % 2147483648 / 8388608 = le-div-iff-mul-le {k = 8388608} (omega arith) .1 h in
+    let q : e - 53 + 1 ≤ w % 2147483648 / 8388608 = le-div-iff-mul-le {k = 8388608} (omega arith) .1 h in
     inr (omega arith, omega arith)
 
 zero-coarse : (j w : ℕ) → w % 2147483648 ≡ 0 → Coarse j w
 unfolding magnitude
 zero-coarse j w h = inl h
+
+pub any-coarse : (j w : ℕ) → Coarse j w → Coarse 0 w
+any-coarse j w (inl z) = inl z
+any-coarse j w (inr l) = inr (l .0, omega arith)
 
 or-top : (m L : ℕ) → L ≤ orTop m → (m ≡ 0) ⊎ (L ≤ m)
 or-top m L k = go (ℕ-discrete m 0)
@@ -64,12 +68,12 @@ each mark L [] h i k p = absurd (not-suc-le-zero k)
 each mark L (w ∷ ws) h zero k p = one mark w L (omega arith) p
 each mark L (w ∷ ws) h (suc i) k p = each mark L ws (omega arith) i (le-of-suc-le-suc k) p
 
-coarse : (e w : ℕ) → (w % 2147483648 ≡ 0) ⊎ ((e - 37 + 1) * 8388608 ≤ w % 2147483648) → Coarse (e - 37) w
-coarse e w (inl z) = zero-coarse (e - 37) w z
+coarse : (e w : ℕ) → (w % 2147483648 ≡ 0) ⊎ ((e - 53 + 1) * 8388608 ≤ w % 2147483648) → Coarse (e - 53) w
+coarse e w (inl z) = zero-coarse (e - 53) w z
 coarse e w (inr l) = large-coarse e w l
 
-pub one-coarse : (e w : ℕ) → (e - 37 + 1) * 8388608 ≤ orTop (w % 2147483648) → Coarse (e - 37) w
-one-coarse e w h = coarse e w (or-top (w % 2147483648) ((e - 37 + 1) * 8388608) h)
+pub one-coarse : (e w : ℕ) → (e - 53 + 1) * 8388608 ≤ orTop (w % 2147483648) → Coarse (e - 53) w
+one-coarse e w h = coarse e w (or-top (w % 2147483648) ((e - 53 + 1) * 8388608) h)
 
-pub all-coarse : (mark e : ℕ) (ws : List ℕ) → (e - 37 + 1) * 8388608 ≤ finest mark ws → AllCoarse mark (e - 37) ws
-all-coarse mark e ws h i k p = coarse e (getD ws i 0) (each mark ((e - 37 + 1) * 8388608) ws h i k p)
+pub all-coarse : (mark e : ℕ) (ws : List ℕ) → (e - 53 + 1) * 8388608 ≤ finest mark ws → AllCoarse mark (e - 53) ws
+all-coarse mark e ws h i k p = coarse e (getD ws i 0) (each mark ((e - 53 + 1) * 8388608) ws h i k p)

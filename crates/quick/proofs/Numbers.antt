@@ -35,10 +35,10 @@ single-number w h = no-nan binary32 w (omega (arith, h, infinity-is))
 pub float-number : (w : ℕ) → magnitude 23 8 w < infinity 23 8 → Number (ofBits binary32 w)
 float-number w h = subst (λ (b : Bool). T (not b)) (nanBits-is binary32 w) (single-number w h)
 
-pub lift-number : (e : ℕ) → e ≤ 263 → T (not (nanBits binary64 ((e + 926) * 2 ^ 52)))
+pub lift-number : (e : ℕ) → e ≤ 277 → T (not (nanBits binary64 ((e + 926) * 2 ^ 52)))
 lift-number e h = no-nan binary64 ((e + 926) * 2 ^ 52) (omega arith)
 
-pub sum-number : (p r e : ℕ) → magnitude 23 8 p < infinity 23 8 → magnitude 23 8 r < infinity 23 8 → e ≤ 263
+pub sum-number : (p r e : ℕ) → magnitude 23 8 p < infinity 23 8 → magnitude 23 8 r < infinity 23 8 → e ≤ 277
     → Number (add binary64 (sub binary64 (ofBits binary32 p) (ofBits binary32 r)) (ofBits binary64 ((e + 926) * 2 ^ 52)))
 unfolding sub
 sum-number p r e f g h =
@@ -48,5 +48,5 @@ sum-number p r e f g h =
     (offset-value binary64 (e + 925) ((e + 926) * 2 ^ 52) (omega arith) z)
 
 -- the pattern of 2 ^ 52 steps, as the code shifts it
-pub lift-fits : (e : ℕ) → e ≤ 263 → (e + 926) * 2 ^ 52 % 2 ^ 64 ≡ (e + 926) * 2 ^ 52
+pub lift-fits : (e : ℕ) → e ≤ 277 → (e + 926) * 2 ^ 52 % 2 ^ 64 ≡ (e + 926) * 2 ^ 52
 lift-fits e h = omega arith

@@ -3,11 +3,12 @@ use mathlib.Core.Path.{_≡_}
 use mathlib.Core.Logic.{_≢_, _⊎_}
 use mathlib.Core.Bool.{cond}
 use mathlib.Core.List.{List, [], _∷_}
-use Prim.Native.Nat.{ℕ, min, _+_, _*_, _%_, _^_, _≤_, _<_}
+use Prim.Native.Nat.{ℕ, min, _+_, _-_, _*_, _%_, _^_, _≤_, _<_}
 use lib.Dec.{eqb}
 use lib.Ieee.{binary32, binary64, ofBits}
 use lib.ListN.{length, getD}
-use Rattle.meaning.specs.Readings.{magnitude, spacingExp}
+use Rattle.meaning.specs.Readings.{magnitude, spacingExp, position}
+use Rattle.meaning.specs.Layers.{lastCode}
 use Rattle.quick.specs.declared.Lift.{Lift}
 
 -- a reading is zero, or it is a normal number whose spacing is at least 2 ^ j
@@ -16,6 +17,10 @@ Coarse j w = (magnitude 23 8 w ≡ 0) ⊎ ((8388608 ≤ magnitude 23 8 w) × (j 
 
 abbrev pub AllCoarse : ℕ → ℕ → List ℕ → Type 0
 AllCoarse mark j ws = (i : ℕ) → i < length ws → getD ws i 0 ≢ mark → Coarse j (getD ws i 0)
+
+-- the steps of a width hold every present reading's distance from the reference
+abbrev pub AllHeld : ℕ → ℕ → ℕ → ℕ → List ℕ → Type 0
+AllHeld mark r e b ws = (i : ℕ) → i < length ws → getD ws i 0 ≢ mark → position 23 8 (getD ws i 0) - position 23 8 r ≤ lastCode b * 2 ^ e
 
 -- a present reading's magnitude, and 0 for a missing one; then a number above all magnitudes for 0
 abbrev pub presentMagnitude : ℕ → ℕ → ℕ

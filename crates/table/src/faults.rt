@@ -50,6 +50,7 @@ fn put_reason(at: usize, form: u8) -> usize {
         b'q' => put_text(at, b"not a number from 0 to 4"),
         b'r' => put_text(at, b"not a number from 0 to 19"),
         b's' => put_text(at, b"not 8 digits 0 to 9, A to F in capitals"),
+        b'w' => put_text(at, b"not a number from 0 to 4294967295"),
         _ => put_text(at, b"not at most 400 bytes, with an n after each backslash"),
     }
 }

@@ -263,3 +263,21 @@ pub fn exponents(row: &[u8], k: usize) -> [i32; 4] {
         signed_item(row, k, 3),
     ]
 }
+
+fn width_item(row: &[u8], k: usize, j: usize) -> u32 {
+    low(number(item(row, k, j), 10))
+}
+
+// A layer's width, whatever its size: the library asks whether it is 2 to 16.
+pub fn width(row: &[u8], k: usize) -> u32 {
+    width_item(row, k, 0)
+}
+
+pub fn widths(row: &[u8], k: usize) -> [u32; 4] {
+    [
+        width_item(row, k, 0),
+        width_item(row, k, 1),
+        width_item(row, k, 2),
+        width_item(row, k, 3),
+    ]
+}

@@ -98,6 +98,7 @@ pub fn has_form(s: &[u8], form: u8) -> bool {
         b'r' => up_to(s, 19),
         b's' => so_many(s, 8, 16),
         b't' => is_text(s),
+        b'w' => up_to(s, 4294967295),
         _ => false,
     }
 }

@@ -109,8 +109,8 @@ pub fn put_doubles(at: usize, all: [u64; 4], n: usize) -> usize {
     next
 }
 
-// Codes.
-pub fn put_codes(at: usize, all: [u16; 4], n: usize) -> usize {
+// Whole numbers, such as widths.
+pub fn put_numbers(at: usize, all: [u32; 4], n: usize) -> usize {
     let mut next = at;
     let mut i: usize = 0;
     while i < 4 {
@@ -120,6 +120,12 @@ pub fn put_codes(at: usize, all: [u16; 4], n: usize) -> usize {
         i += 1;
     }
     next
+}
+
+// Codes.
+pub fn put_codes(at: usize, all: [u16; 4], n: usize) -> usize {
+    let numbers = [all[0] as u32, all[1] as u32, all[2] as u32, all[3] as u32];
+    put_numbers(at, numbers, n)
 }
 
 // Step exponents.

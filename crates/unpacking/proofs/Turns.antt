@@ -1,25 +1,25 @@
 -- The loop over layers, over plain lists: what is written of the readings, and then what the layers that are left unpack to, is the whole.
 use mathlib.Core.Path.{_≡_, refl, sym, ap, _∙_, subst}
 use mathlib.Core.Bool.{Bool, true}
-use mathlib.Core.List.{List, [], _∷_, _++_, map, zipWith, flatten, append-assoc, append-nil}
+use mathlib.Core.List.{List, [], _∷_, _++_, map, zipWith, flatten}
 use Prim.Native.Nat.{ℕ, zero, suc, _+_, _-_, _*_, _^_, _≤_, _<_}
 use native.Mathlib.Nat.{div-add-mod', le-of-suc-le-suc, not-suc-le-zero, sub-zero, zero-add}
-use native.Mathlib.Numerals.{add-one}
 use native.Mathlib.Omega.{arith}
-use lib.Dec.{T}
+use borrow.Author.Tests.{leb-true}
+use lib.Dec.{T, leb}
 use lib.IntN.{ℤ, pos}
-use lib.ListN.{length, getD, take, drop, length-map, length-take, length-drop, drop-of-length-le}
-use lib.Seq.{drop-cons, drop-drop, take-all}
-use lib.Ieee.{Float, nan, binary32, toBits, fits}
-use Rattle.meaning.specs.Layers.{runs, unpackedCode}
-use Rattle.meaning.specs.Questions.{all}
-use Rattle.meaning.specs.Calls.{storedLayer}
+use lib.ListN.{length, getD, take, drop, length-map, length-take, length-drop}
+use lib.Ieee.{Float, nan, binary32, binary64, ofInt, toBits, fits}
+use Rattle.meaning.specs.Layers.{Layer, missingCode, runs, layers, unpackedCode, unpackedCodes}
+use Rattle.meaning.specs.Questions.{all, widthInRange, exponentInRange}
+use Rattle.meaning.specs.Calls.{storedLayer, storedLayers}
 use Rattle.meaning.proofs.Accepted.{and-first, and-second}
+use Rattle.meaning.proofs.Layering.{map-at, run-left, Written, written-turn, written-end}
 use Rattle.parts.proofs.Back.{back, length-back, take-back}
-use Rattle.asking.proofs.Layers.{Lengths}
 use Rattle.decoding.specs.declared.LayerFloats.{LayerFloats}
-use Rattle.decoding.specs.Floats.{finiteFloat, stepExponent, twoTo, decoded}
+use Rattle.decoding.specs.Floats.{finiteFloat, twoTo, decoded}
 use Rattle.decoding.proofs.Codes.{code-decoded}
+use Rattle.unpacking.specs.Known.{Known}
 
 -- ---- elements of lists
 
@@ -28,6 +28,10 @@ unfolding all
 all-at f d [] i e h = absurd (not-suc-le-zero h)
 all-at f d (x ∷ xs) zero e h = and-first (f x) (all f xs) e
 all-at f d (x ∷ xs) (suc i) e h = all-at f d xs i (and-second (f x) (all f xs) e) (le-of-suc-le-suc h)
+
+-- every element is a single
+abbrev pub Singles : List Float → Type 0
+Singles rs = (i : ℕ) → T (fits binary32 (getD rs i nan))
 
 -- every element is below B, and 0 is where there is none
 abbrev pub Below : ℕ → List ℕ → Type 0
@@ -48,114 +52,130 @@ map-below : (B : ℕ) (f g : ℕ → ℕ) → ((x : ℕ) → x < B → f x ≡ g
 map-below B f g e [] h = refl
 map-below B f g e (x ∷ xs) h = ap (λ y. y ∷ map f xs) (e x (h 0)) ∙ ap (λ ys. g x ∷ ys) (map-below B f g e xs (λ j. h (suc j)))
 
--- ---- what k layers unpack to
+-- ---- the layers as they are stored
 
-unfoldable pub unpackedBy : ℕ → ℕ → ℕ → List Float → List ℤ → List ℕ → List ℕ
-unpackedBy mark L k rs es cs = flatten (zipWith (λ l part. map (unpackedCode 16 mark l) part) (zipWith storedLayer (map (toBits binary32) rs) es) (runs L k cs))
+stored-at : (ws rs : List ℕ) (es : List ℤ) (d : Layer) (i : ℕ) → i < length ws → i < length rs → i < length es
+    → getD (storedLayers ws rs es) i d ≡ storedLayer (getD ws i 0) (getD rs i 0) (getD es i (pos 0))
+unfolding storedLayers zipWith
+stored-at [] rs es d i h k l = absurd (not-suc-le-zero h)
+stored-at (w ∷ ws) [] es d i h k l = absurd (not-suc-le-zero k)
+stored-at (w ∷ ws) (r ∷ rs) [] d i h k l = absurd (not-suc-le-zero l)
+stored-at (w ∷ ws) (r ∷ rs) (e ∷ es) d zero h k l = refl
+stored-at (w ∷ ws) (r ∷ rs) (e ∷ es) d (suc i) h k l = stored-at ws rs es d i (le-of-suc-le-suc h) (le-of-suc-le-suc k) (le-of-suc-le-suc l)
 
-by-first : (mark L k : ℕ) (r : Float) (rs : List Float) (e : ℤ) (es : List ℤ) (cs : List ℕ)
-    → unpackedBy mark L (suc k) (r ∷ rs) (e ∷ es) cs ≡ map (unpackedCode 16 mark (storedLayer (toBits binary32 r) e)) (take L cs) ++ unpackedBy mark L k rs es (drop L cs)
-unfolding unpackedBy runs zipWith flatten
-by-first mark L k r rs e es cs = refl
+stored-length : (ws rs : List ℕ) (es : List ℤ) → length ws ≡ length rs → length es ≡ length rs → length (storedLayers ws rs es) ≡ length rs
+unfolding storedLayers zipWith
+stored-length [] [] es h k = refl
+stored-length [] (r ∷ rs) es h k = absurd (omega arith)
+stored-length (w ∷ ws) [] es h k = absurd (omega arith)
+stored-length (w ∷ ws) (r ∷ rs) [] h k = absurd (omega arith)
+stored-length (w ∷ ws) (r ∷ rs) (e ∷ es) h k = ap suc (stored-length ws rs es (omega arith) (omega arith))
 
-by-none : (mark L k : ℕ) (es : List ℤ) (cs : List ℕ) → unpackedBy mark L k [] es cs ≡ []
-unfolding unpackedBy zipWith flatten
-by-none mark L k es cs = refl
+-- what becomes of a layer's codes
+abbrev unpackedPart : ℕ → Layer → List ℕ → List ℕ
+unpackedPart mark l part = map (unpackedCode mark l) part
 
--- what an accepted call knows
-pub record Known (cs : List ℕ) (rs : List Float) (es : List ℤ) (L readings : ℕ) : Type 0 where
-  pub lengths : Lengths L (length cs) readings (length rs) (length es)
-  pub references : all finiteFloat rs ≡ true
-  pub exponents : all stepExponent es ≡ true
+abbrev none : Layer
+none = record { width = 0; reference = 0; exponent = 0 }
 
-pub record Turn (cs : List ℕ) (rs : List Float) (es : List ℤ) (L mark readings : ℕ) (ys : List ℕ) (a i : ℕ) : Type 0 where
-  pub known : Known cs rs es L readings
-  pub as-long : length ys ≡ readings
-  pub within : i ≤ length rs
-  pub room : a + (length rs - i) * L ≡ length cs
-  pub written : take a ys ++ unpackedBy mark L (length rs - i) (drop i rs) (drop i es) (drop a cs) ≡ unpackedBy mark L (length rs) rs es cs
+module _ (ws cs : List ℕ) (rs : List Float) (es : List ℤ) (L mark readings : ℕ) where
+  abbrev stored : List Layer
+  stored = storedLayers ws (map (toBits binary32) rs) es
 
-pub start : (cs : List ℕ) (rs : List Float) (es : List ℤ) (L mark : ℕ) (ys : List ℕ) → Known cs rs es L (length ys) → Turn cs rs es L mark (length ys) ys 0 0
-start cs rs es L mark ys k =
-    record {
-      known = k;
-      as-long = refl;
-      within = omega arith;
-      room =
-          zero-add _ ∙ ap (λ (n : ℕ). n * L) (sub-zero (length rs) ∙ k .lengths .one-reference)
-          ∙ omega (arith, div-add-mod' (length cs) L, k .lengths .whole);
-      written = ap (λ (n : ℕ). unpackedBy mark L n rs es cs) (sub-zero (length rs));
-    }
+  stored-long : Known ws cs rs es L readings → length stored ≡ length rs
+  stored-long k =
+      stored-length ws (map (toBits binary32) rs) es (rw length-map (omega (arith, k .one-reference, k .one-width))) (rw length-map (omega (arith, k .one-reference, k .one-exponent)))
+      ∙ length-map rs (toBits binary32)
 
-module _ (cs : List ℕ) (rs : List Float) (es : List ℤ) (L mark readings : ℕ) (ys : List ℕ) (a i : ℕ) (inv : Turn cs rs es L mark readings ys a i) where
-  -- one more layer is there
-  pub fits-in : i < length rs → a + L ≤ length cs
-  fits-in h =
-      let m : length rs - i ≡ suc (length rs - (i + 1)) = omega arith in
-      let e : a + suc (length rs - (i + 1)) * L ≡ length cs = rw m at (inv .room) in
-      omega arith
+  pub record Turn (ys : List ℕ) (a i : ℕ) : Type 0 where
+    pub known : Known ws cs rs es L readings
+    pub as-long : length ys ≡ readings
+    pub within : i ≤ length rs
+    pub room : a + (length rs - i) * L ≡ length cs
+    pub written : Written L none (unpackedPart mark) (length rs) stored cs ys a a i (length rs - i)
 
-  pub exponent-there : i < length rs → i < length es
-  exponent-there h = omega (arith, inv .known .lengths .one-reference, inv .known .lengths .one-exponent)
+  pub start : (ys : List ℕ) → length ys ≡ readings → Known ws cs rs es L readings → Turn ys 0 0
+  start ys e k =
+      record {
+        known = k;
+        as-long = e;
+        within = omega arith;
+        room =
+            zero-add _ ∙ ap (λ (n : ℕ). n * L) (sub-zero (length rs) ∙ k .one-reference)
+            ∙ omega (arith, div-add-mod' (length cs) L, k .whole);
+        written = ap (λ (n : ℕ). flatten (zipWith (unpackedPart mark) stored (runs L n cs))) (sub-zero (length rs));
+      }
 
-  pub reference-finite : i < length rs → finiteFloat (getD rs i nan) ≡ true
-  reference-finite h = all-at finiteFloat nan rs i (inv .known .references) h
+  module _ (ys : List ℕ) (a i : ℕ) (inv : Turn ys a i) where
+    pub as-many : length ys ≡ length cs
+    as-many = inv .as-long ∙ inv .known .as-many
 
-  pub exponent-step : i < length rs → stepExponent (getD es i (pos 0)) ≡ true
-  exponent-step h = all-at stepExponent (pos 0) es i (inv .known .exponents) (exponent-there h)
+    -- one more layer is there
+    pub fits-in : i < length rs → a + L ≤ length cs
+    fits-in h = run-left L a i (length rs) (length cs) h (inv .room) .1
 
-  -- the layer's codes as the code has them
-  module _ (h : i < length rs) (small : Below (2 ^ 16) cs) (l : LayerFloats) (fit : T (fits binary32 (l .reference))) (re : l .reference ≡ getD rs i nan)
-      (se : l .step ≡ twoTo (getD es i (pos 0))) where
-    abbrev code : ℕ → ℕ
-    code = unpackedCode 16 mark (storedLayer (toBits binary32 (getD rs i nan)) (getD es i (pos 0)))
+    pub exponent-there : i < length rs → i < length es
+    exponent-there h = omega (arith, inv .known .one-reference, inv .known .one-exponent)
 
-    layer-is : (k : ℕ) → map (decoded l mark) (take k (drop a cs)) ≡ map code (take k (drop a cs))
-    layer-is k =
-        map-below (2 ^ 16) (decoded l mark) code
-        (λ x b.
-        subst (λ (r : Float). decoded l mark x ≡ unpackedCode 16 mark (storedLayer (toBits binary32 r) (getD es i (pos 0))) x) re
-        (code-decoded l (getD es i (pos 0)) fit (rw re (reference-finite h)) (exponent-step h) se x b mark))
-        (take k (drop a cs)) (below-take (2 ^ 16) (omega arith) k (drop a cs) (below-drop (2 ^ 16) a cs small))
+    pub width-there : i < length rs → i < length ws
+    width-there h = omega (arith, inv .known .one-reference, inv .known .one-width)
 
-    abbrev layer : List ℕ
-    layer = map code (take L (drop a cs))
+    pub reference-finite : i < length rs → finiteFloat (getD rs i nan) ≡ true
+    reference-finite h = all-at finiteFloat nan rs i (inv .known .references-known) h
 
-    -- what was left is this layer and what is left after it
-    left-first : unpackedBy mark L (length rs - i) (drop i rs) (drop i es) (drop a cs)
-        ≡ layer ++ unpackedBy mark L (length rs - (i + 1)) (drop (i + 1) rs) (drop (i + 1) es) (drop (a + L) cs)
-    left-first =
-        let m : length rs - i ≡ suc (length rs - (i + 1)) = omega arith in
-        rw (m, drop-cons rs i nan h, drop-cons es i (pos 0) (exponent-there h), by-first, drop-drop L a cs, add-one i) refl
+    pub exponent-step : i < length rs → exponentInRange (getD es i (pos 0)) ≡ true
+    exponent-step h = all-at exponentInRange (pos 0) es i (inv .known .exponents-known) (exponent-there h)
 
-    pub turn : (zs : List ℕ) → zs ≡ map (decoded l mark) (take (a + L - a) (drop a cs)) → Turn cs rs es L mark readings (back ys a (a + L - a) zs) (a + L) (i + 1)
-    turn zs e =
-        let k : a + L - a ≡ L = omega arith in
-        let o = fits-in h in
-        let m : length rs - i ≡ suc (length rs - (i + 1)) = omega arith in
-        let zl : length zs ≡ a + L - a = ap length e ∙ simp (length-map, length-take, length-drop) (omega arith) in
-        let fits : a + (a + L - a) ≤ length ys = omega (arith, inv .as-long, inv .known .lengths .as-many) in
-        let written-now : take (a + L) (back ys a (a + L - a) zs) ≡ take a ys ++ layer =
-        subst (λ (j : ℕ). take (a + j) (back ys a (a + L - a) zs) ≡ take a ys ++ layer) k
-        (take-back ys a (a + L - a) zs zl fits
-        ∙ ap (λ u. take a ys ++ u) (e ∙ layer-is (a + L - a) ∙ ap (λ (j : ℕ). map code (take j (drop a cs))) k)) in
-        record {
-          known = inv .known;
-          as-long = length-back ys a (a + L - a) zs zl fits ∙ inv .as-long;
-          within = omega arith;
-          room = let q : a + suc (length rs - (i + 1)) * L ≡ length cs = rw m at (inv .room) in omega arith;
-          written =
-              ap (λ u. u ++ unpackedBy mark L (length rs - (i + 1)) (drop (i + 1) rs) (drop (i + 1) es) (drop (a + L) cs)) written-now
-              ∙ append-assoc (take a ys) layer _
-              ∙ ap (λ u. take a ys ++ u) (sym left-first)
-              ∙ inv .written;
-        }
+    pub width-few : i < length rs → getD ws i 0 ≤ 16
+    width-few h =
+        let w = getD ws i 0 in
+        leb-true w 16 (and-second (leb 2 w) (leb w 16) (all-at widthInRange 0 ws i (inv .known .widths-known) (width-there h)))
 
-  pub finish : length rs ≤ i → ys ≡ unpackedBy mark L (length rs) rs es cs
-  finish h =
-      let z : length rs - i ≡ 0 = omega arith in
-      let q : a + 0 * L ≡ length cs = rw z at (inv .room) in
-      sym (take-all a ys (omega (arith, inv .as-long, inv .known .lengths .as-many)))
-      ∙ sym (append-nil (take a ys))
-      ∙ ap (λ u. take a ys ++ u) (sym (ap (λ xs. unpackedBy mark L (length rs - i) xs (drop i es) (drop a cs)) (drop-of-length-le rs h) ∙ by-none mark L _ _ _))
-      ∙ inv .written
+    -- the layer's codes as the code has them
+    module _ (h : i < length rs) (small : Below (2 ^ 16) cs) (l : LayerFloats) (fit : T (fits binary32 (l .reference))) (re : l .reference ≡ getD rs i nan)
+        (se : l .step ≡ twoTo (getD es i (pos 0))) (me : l .missing ≡ ofInt binary64 (pos (missingCode (getD ws i 0)))) where
+      abbrev layer : Layer
+      layer = storedLayer (getD ws i 0) (toBits binary32 (getD rs i nan)) (getD es i (pos 0))
+
+      layer-at : getD stored i none ≡ layer
+      layer-at =
+          stored-at ws (map (toBits binary32) rs) es none i (width-there h) (rw length-map h) (exponent-there h)
+          ∙ ap (λ (r : ℕ). storedLayer (getD ws i 0) r (getD es i (pos 0))) (map-at (toBits binary32) nan 0 rs i h)
+
+      layer-is : (k : ℕ) → map (decoded l mark) (take k (drop a cs)) ≡ unpackedPart mark layer (take k (drop a cs))
+      layer-is k =
+          map-below (2 ^ 16) (decoded l mark) (unpackedCode mark layer)
+          (λ x b.
+          subst (λ (r : Float). decoded l mark x ≡ unpackedCode mark (storedLayer (getD ws i 0) (toBits binary32 r) (getD es i (pos 0))) x) re
+          (code-decoded l (getD es i (pos 0)) fit (rw re (reference-finite h)) (exponent-step h) se x b (getD ws i 0) mark (width-few h) me))
+          (take k (drop a cs)) (below-take (2 ^ 16) (omega arith) k (drop a cs) (below-drop (2 ^ 16) a cs small))
+
+      pub turn : (zs : List ℕ) → zs ≡ map (decoded l mark) (take (a + L - a) (drop a cs)) → Turn (back ys a (a + L - a) zs) (a + L) (i + 1)
+      turn zs e =
+          let k : a + L - a ≡ L = omega arith in
+          let o = fits-in h in
+          let m : length rs - i ≡ suc (length rs - (i + 1)) = omega arith in
+          let zl : length zs ≡ a + L - a = ap length e ∙ simp (length-map, length-take, length-drop) (omega arith) in
+          let fits : a + (a + L - a) ≤ length ys = omega (arith, as-many) in
+          let is : zs ≡ unpackedPart mark (getD stored i none) (take L (drop a cs)) =
+          e ∙ layer-is (a + L - a) ∙ ap (λ (j : ℕ). unpackedPart mark layer (take j (drop a cs))) k ∙ ap (λ (x : Layer). unpackedPart mark x (take L (drop a cs))) (sym layer-at) in
+          record {
+            known = inv .known;
+            as-long = length-back ys a (a + L - a) zs zl fits ∙ inv .as-long;
+            within = omega arith;
+            room = run-left L a i (length rs) (length cs) h (inv .room) .0;
+            written =
+                written-turn L none (unpackedPart mark) (length rs) stored cs ys (back ys a (a + L - a) zs) a a L i (length rs - (i + 1)) (omega (arith, stored-long (inv .known)))
+                (subst (λ (j : ℕ). take (a + j) (back ys a (a + L - a) zs) ≡ take a ys ++ unpackedPart mark (getD stored i none) (take L (drop a cs))) k
+                (take-back ys a (a + L - a) zs zl fits ∙ ap (λ (u : List ℕ). take a ys ++ u) is))
+                (subst (λ (j : ℕ). Written L none (unpackedPart mark) (length rs) stored cs ys a a i j) m (inv .written));
+          }
+
+    pub finish : length rs ≤ i → ys ≡ unpackedCodes mark L stored cs
+    unfolding unpackedCodes layers
+    finish h =
+        let z : length rs - i ≡ 0 = omega arith in
+        let q : a + 0 * L ≡ length cs = rw z at (inv .room) in
+        written-end L none (unpackedPart mark) (length rs) stored cs ys a a i (omega (arith, as-many)) (omega (arith, stored-long (inv .known)))
+        (subst (λ (j : ℕ). Written L none (unpackedPart mark) (length rs) stored cs ys a a i j) z (inv .written))
+        ∙ ap (λ (n : ℕ). flatten (zipWith (unpackedPart mark) stored (runs L n cs))) (inv .known .one-reference)

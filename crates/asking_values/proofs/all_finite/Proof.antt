@@ -6,7 +6,7 @@ use borrow.Author.Tests.{not-true, not-false}
 use lib.ListN.{length}
 use lib.Ieee.{nan}
 use Rattle.decoding.specs.Floats.{finiteFloat}
-use Rattle.asking_values.proofs.Every.{Left, left-passes, left-fails, left-none}
+use Rattle.asking_layers.proofs.Every.{Left, left-passes, left-fails, left-none}
 use Rattle.asking_values.proofs.all_finite.Statement.{statement}
 use Rattle.asking_values.proofs.all_finite.Tie as tie
 

@@ -9,13 +9,13 @@ use lib.ListN.{length, getD}
 use mir.Facts.{toZ-ofZ}
 use mir.Syntax.{w32}
 use mir.Val.{SFits}
-use Rattle.decoding.specs.Floats.{stepExponent}
-use Rattle.asking_values.proofs.Every.{Left, left-passes, left-fails, left-none}
+use Rattle.meaning.specs.Questions.{exponentInRange}
+use Rattle.asking_layers.proofs.Every.{Left, left-passes, left-fails, left-none}
 use Rattle.asking_values.proofs.all_steps.Statement.{statement}
 use Rattle.asking_values.proofs.all_steps.Tie as tie
 
 abbrev Inv-loop : tie.InvT-loop
-Inv-loop exponents i₀ i = (i ≤ length exponents) × Left stepExponent exponents i
+Inv-loop exponents i₀ i = (i ≤ length exponents) × Left exponentInRange exponents i
 
 abbrev μ-loop : tie.MeasureT-loop
 μ-loop exponents i₀ i = length exponents - i
@@ -37,8 +37,8 @@ returns c =
     let at = c .before .before .before .before in
     let z = getD (at .before .args .exponents .now) (at .loop .i) (pos 0) in
     let fit : SFits w32 z = search needs in
-    let e = sym (c .before .is-step .ensures ∙ ap stepExponent (toZ-ofZ fit)) ∙ not-true _ (c .if1 .taken) in
-    left-fails stepExponent (pos 0) _ (at .loop .i) (omega arith) e (at .loop .inv .1)
+    let e = sym (c .before .is-step .ensures ∙ ap exponentInRange (toZ-ofZ fit)) ∙ not-true _ (c .if1 .taken) in
+    left-fails exponentInRange (pos 0) _ (at .loop .i) (omega arith) e (at .loop .inv .1)
 
 add-i : tie.Need-add-i Inv-loop μ-loop
 add-i c = omega arith
@@ -51,11 +51,11 @@ loop-again c =
     let at = c .before .before .before .before in
     let z = getD (at .before .args .exponents .now) (at .loop .i) (pos 0) in
     let fit : SFits w32 z = search needs in
-    let e = sym (c .before .is-step .ensures ∙ ap stepExponent (toZ-ofZ fit)) ∙ not-false _ (c .if1 .left) in
-    (omega arith, left-passes stepExponent (pos 0) _ (at .loop .i) (omega arith) e (at .loop .inv .1))
+    let e = sym (c .before .is-step .ensures ∙ ap exponentInRange (toZ-ofZ fit)) ∙ not-false _ (c .if1 .left) in
+    (omega arith, left-passes exponentInRange (pos 0) _ (at .loop .i) (omega arith) e (at .loop .inv .1))
 
 returns-2 : tie.Need-returns-2 Inv-loop μ-loop
-returns-2 c = left-none stepExponent (pos 0) _ (c .before .loop .i) (omega arith) (c .before .loop .inv .1)
+returns-2 c = left-none exponentInRange (pos 0) _ (c .before .loop .i) (omega arith) (c .before .loop .inv .1)
 
 pub all-steps-spec : {M : Type 1} → statement M
 all-steps-spec =

@@ -15,7 +15,7 @@ returns-2 : tie.Need-returns-2
 returns-2 c =
     let s = c .before .before in
     let z = s .args .exponent in
-    rw (le-by-lt z (pos 114) true (above-said z (pos 114) true (s .fits .exponent) (c .if2 .taken))) (sym (and-false (leZ (negsuc 148) z)))
+    rw (le-by-lt z (pos 128) true (above-said z (pos 128) true (s .fits .exponent) (c .if2 .taken))) (sym (and-false (leZ (negsuc 148) z)))
 
 returns-3 : tie.Need-returns-3
 returns-3 c =
@@ -23,7 +23,7 @@ returns-3 c =
     let z = s .args .exponent in
     simp (
       le-by-lt (negsuc 148) z false (below-said z (negsuc 148) false (s .fits .exponent) (c .before .if1 .left)),
-      le-by-lt z (pos 114) false (above-said z (pos 114) false (s .fits .exponent) (c .if2 .left)),
+      le-by-lt z (pos 128) false (above-said z (pos 128) false (s .fits .exponent) (c .if2 .left)),
     )
 
 pub is-step-spec : {M : Type 1} → statement M

@@ -37,7 +37,7 @@ returns c =
     let t = c .before .before .before .before .before .before .unit-of in
     let x = c .before .before .before .before .before .cut-reading in
     let y = c .before .before .before .cut-reading2 in
-    sym (le-leb _ _ (both-law (s .hi) (s .lo) (sign-small (s .lo) (omega arith)) (omega arith) (omega arith) (omega arith) (s .e) (omega arith) (t .result) (x .result) (y .result)
+    sym (le-leb _ _ (both-law (s .hi) (s .lo) (sign-small (s .lo) (omega arith)) (omega arith) (omega arith) (omega arith) (s .steps) (omega arith) (s .e) (omega arith) (t .result) (x .result) (y .result)
     (t .ensures) (x .ensures) (y .ensures ∙ ap (λ (z : ℕ). readingOf z (t .result)) (c .before .before .before .before .opposite .ensures)) (c .if1 .taken)))
 
 wrapping-add-u64-requires : tie.Need-wrapping-add-u64-requires
@@ -53,7 +53,7 @@ top-of-requires : tie.Need-top-of-requires
 top-of-requires c κs = search needs
 
 test-at : (c : tie.After-top-of)
-    → Test (c .before .before .before .before .before .before .before .before .before .args .hi) (c .before .before .before .before .before .before .before .before .before .args .lo)
+    → Test (c .before .before .before .before .before .before .before .before .before .args .steps) (c .before .before .before .before .before .before .before .before .before .args .hi) (c .before .before .before .before .before .before .before .before .before .args .lo)
     (c .before .before .before .before .before .before .before .before .before .args .e) (c .before .wrapping-add-u64 .result)
     (c .before .before .before .before .before .before .before .cut-reading .result .lost + c .before .before .before .before .before .cut-reading2 .result .lost)
 test-at c =
@@ -62,15 +62,15 @@ test-at c =
     let t = c .before .before .before .before .before .before .before .before .unit-of in
     let x = c .before .before .before .before .before .before .before .cut-reading in
     let y = c .before .before .before .before .before .cut-reading2 in
-    test-law (s .hi) (s .lo) (sign-small (s .lo) (omega arith)) (omega arith) (omega arith) (omega arith) (s .e) (omega arith) (t .result) (x .result) (y .result)
+    test-law (s .hi) (s .lo) (sign-small (s .lo) (omega arith)) (omega arith) (omega arith) (omega arith) (s .steps) (omega arith) (s .e) (omega arith) (t .result) (x .result) (y .result)
     (t .ensures) (x .ensures) (y .ensures ∙ ap (λ (z : ℕ). readingOf z (t .result)) (c .before .before .before .before .before .before .opposite .ensures))
     (c .before .wrapping-add-u64 .result) (c .before .wrapping-add-u64 .ensures) (c .before .before .if1 .left)
 
 top-at : (c : tie.After-top-of)
-    → c .top-of .result ≡ 65534 * 2 ^ (c .before .before .before .before .before .before .before .before .before .args .e + 1 - (c .before .before .before .before .before .before .before .before .before .args .e - 39))
+    → c .top-of .result ≡ c .before .before .before .before .before .before .before .before .before .args .steps * 2 ^ (c .before .before .before .before .before .before .before .before .before .args .e + 1 - (c .before .before .before .before .before .before .before .before .before .args .e - 39))
 top-at c =
-    let e = c .before .before .before .before .before .before .before .before .before .args .e in
-    c .top-of .ensures ∙ ap (λ (z : ℕ). 65534 * 2 ^ (e + 1 - z)) (c .before .before .before .before .before .before .before .before .unit-of .ensures)
+    let s = c .before .before .before .before .before .before .before .before .before .args in
+    c .top-of .ensures ∙ ap (λ (z : ℕ). s .steps * 2 ^ (s .e + 1 - z)) (c .before .before .before .before .before .before .before .before .unit-of .ensures)
 
 returns-2 : tie.Need-returns-2
 returns-2 c = sym (le-leb _ _ (test-at (c .before) .under (omega (arith, top-at (c .before)))))
@@ -81,7 +81,7 @@ returns-3 c = sym (lt-leb _ _ (test-at (c .before .before) .over (omega (arith, 
 returns-4 : tie.Need-returns-4
 returns-4 c =
     let same : c .before .before .before .wrapping-add-u64 .result ≡ c .before .before .top-of .result = omega arith in
-    test-even _ _ _ _ _ (test-at (c .before .before)) (same ∙ top-at (c .before .before))
+    test-even _ _ _ _ _ _ (test-at (c .before .before)) (same ∙ top-at (c .before .before))
 
 pub holds-at-spec : {M : Type 1} → statement M
 holds-at-spec =

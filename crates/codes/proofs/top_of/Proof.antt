@@ -1,5 +1,6 @@
 use native.Mathlib.Omega.{arith}
-use native.Mathlib.Nat.{mod-eq-of-lt}
+use native.Mathlib.Nat.{mod-eq-of-lt, mul-le-mul}
+use Prim.Native.Nat.{_^_}
 use lib.Pow.{pow-mono}
 use borrow.Author.Needs.{needs}
 use Rattle.codes.proofs.top_of.Statement.{statement}
@@ -9,7 +10,7 @@ shl-result : tie.Need-shl-result
 shl-result c = search needs
 
 returns : tie.Need-returns
-returns c = mod-eq-of-lt (omega (arith, pow-mono {i = c .args .k} {j = 40} (omega arith)))
+returns c = mod-eq-of-lt (omega (arith, mul-le-mul {n₁ = c .args .steps} {m₁ = 2 ^ c .args .k} {n₂ = 65534} {m₂ = 2 ^ 40} (omega arith) (pow-mono {i = c .args .k} {j = 40} (omega arith))))
 
 pub top-of-spec : {M : Type 1} → statement M
 top-of-spec = tie.close (tie.spec shl-result returns)

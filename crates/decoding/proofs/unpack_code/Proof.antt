@@ -1,7 +1,7 @@
 -- `unpack_code` meets its contract: the value is no NaN, so that it has a pattern, and the code says which of the two is taken.
 use mathlib.Core.Path.{refl, sym, ap, subst}
 use native.Mathlib.Omega.{arith}
-use borrow.Author.Tests.{eq-eqb, ne-eqb}
+use borrow.Author.Needs.{needs}
 use lib.Ieee.{binary64, toBits}
 use Rattle.absolute.proofs.NotNan.{Number}
 use Rattle.decoding.specs.Floats.{decoded}
@@ -17,13 +17,16 @@ float-to-bits-double c =
     let s = c .before in
     subst Number (sym (c .value-of .ensures)) (unpacked-number (s .args .l) (s .args .code) (omega arith) (s .pre))
 
+int-to-float-if1 : tie.Need-int-to-float-if1
+int-to-float-if1 c = search needs
+
 returns : tie.Need-returns
 unfolding decoded
-returns c = rw (eq-eqb (c .before .before .args .code) 65535 (c .if1 .taken)) refl
+returns c = rw (c .if1 .taken) refl
 
 returns-2 : tie.Need-returns-2
 unfolding decoded
-returns-2 c = rw (ne-eqb (c .before .before .args .code) 65535 (c .if1 .left)) (ap (toBits binary64) (c .before .value-of .ensures))
+returns-2 c = rw (c .if1 .left) (ap (toBits binary64) (c .before .before .before .value-of .ensures))
 
 pub unpack-code-spec : {M : Type 1} → statement M
-unpack-code-spec = tie.close (tie.spec value-of-requires float-to-bits-double returns returns-2)
+unpack-code-spec = tie.close (tie.spec value-of-requires float-to-bits-double int-to-float-if1 returns returns-2)

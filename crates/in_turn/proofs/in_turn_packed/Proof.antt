@@ -31,7 +31,7 @@ returns c =
     let k = rw (l .0) at (p .1 .0) in
     let r = rw (l .0) at (p .1 .1 .0) in
     let e = rw (l .0) at (p .1 .1 .1) in
-    (search needs, (search needs, (search needs, (search needs, (search needs, (l .1, pack-promised _ _ _ (l .0) a k r e))))))
+    (search needs, (search needs, (search needs, (search needs, (search needs, (l .1, pack-promised _ _ _ _ (l .0) a k r e))))))
 
 pub in-turn-packed-spec : {M : Type 1} → statement M
 in-turn-packed-spec =

@@ -9,10 +9,10 @@ use Rattle.layering.proofs.flat_codes.Statement.{statement}
 use Rattle.layering.proofs.flat_codes.Tie as tie
 
 abbrev Inv-loop : tie.InvT-loop
-Inv-loop readings mark codes₀ i₀ codes i = (length codes ≡ length readings) × Filled (flatCode mark) readings codes i
+Inv-loop readings mark missing out₀ i₀ out i = (length out ≡ length readings) × Filled (flatCode missing mark) readings out i
 
 abbrev μ-loop : tie.MeasureT-loop
-μ-loop readings mark codes₀ i₀ codes i = length readings - i
+μ-loop readings mark missing out₀ i₀ out i = length readings - i
 
 loop-holds : tie.Need-loop-holds Inv-loop μ-loop
 loop-holds c = search needs
@@ -26,11 +26,11 @@ shared-slice-read-flat-code c = search needs
 flat-code-requires : tie.Need-flat-code-requires Inv-loop μ-loop
 flat-code-requires c κs = search needs
 
-mul-codes : tie.Need-mul-codes Inv-loop μ-loop
-mul-codes c = search needs
+mul-out : tie.Need-mul-out Inv-loop μ-loop
+mul-out c = search needs
 
-slice-write-codes : tie.Need-slice-write-codes Inv-loop μ-loop
-slice-write-codes c = search needs
+slice-write-out : tie.Need-slice-write-out Inv-loop μ-loop
+slice-write-out c = search needs
 
 add-i : tie.Need-add-i Inv-loop μ-loop
 add-i c = search needs
@@ -42,14 +42,14 @@ loop-again : tie.Need-loop-again Inv-loop μ-loop
 loop-again c =
     let at = c .before .before .before in (
       simp length-set (at .loop .inv .0),
-      filled-turn (flatCode (at .before .before .before .args .mark)) (at .before .before .before .args .readings .now) (at .loop .codes) (at .loop .i) 0 _ (search needs) (omega (arith, at .loop .inv .0)) (c .flat-code .ensures) (at .loop .inv .1),
+      filled-turn (flatCode (at .before .before .before .args .missing) (at .before .before .before .args .mark)) (at .before .before .before .args .readings .now) (at .loop .out) (at .loop .i) 0 _ (search needs) (omega (arith, at .loop .inv .0)) (c .flat-code .ensures) (at .loop .inv .1),
     )
 
 same-length : tie.Need-same-length Inv-loop μ-loop
 same-length c = search needs
 
 returns : tie.Need-returns Inv-loop μ-loop
-returns c = let at = c .before in filled-end (flatCode (at .before .before .before .args .mark)) (at .before .before .before .args .readings .now) (at .loop .codes) (at .loop .i) (search needs) (omega (arith, at .loop .inv .0)) (at .loop .inv .1)
+returns c = let at = c .before in filled-end (flatCode (at .before .before .before .args .missing) (at .before .before .before .args .mark)) (at .before .before .before .args .readings .now) (at .loop .out) (at .loop .i) (search needs) (omega (arith, at .loop .inv .0)) (at .loop .inv .1)
 
 pub flat-codes-spec : {M : Type 1} → statement M
 flat-codes-spec =
@@ -61,8 +61,8 @@ flat-codes-spec =
     mul-flat-code
     shared-slice-read-flat-code
     flat-code-requires
-    mul-codes
-    slice-write-codes
+    mul-out
+    slice-write-out
     add-i
     loop-less
     loop-again

@@ -12,7 +12,7 @@ enum-told c = search needs
 flat-layer-requires : tie.Need-flat-layer-requires
 flat-layer-requires c κs =
     let s = c .before .before .before .before .before .before in
-    (s .pre .0, nothing-one _ _ (c .before .enum-told .given .1) (c .before .before .before .summary-of .ensures))
+    (s .pre .0, (s .pre .1 .0, nothing-one _ _ (c .before .enum-told .given .1) (c .before .before .before .summary-of .ensures)))
 
 enum-known-s : tie.Need-enum-known-s
 enum-known-s c = search needs
@@ -20,7 +20,7 @@ enum-known-s c = search needs
 flat-layer-requires-2 : tie.Need-flat-layer-requires-2
 flat-layer-requires-2 c κs =
     let s = c .before .before .before .before .before .before .before in
-    (s .pre .0, flat-one _ _ _ (c .before .before .s .given .1) (c .before .before .before .before .summary-of .ensures))
+    (s .pre .0, (s .pre .1 .0, flat-one _ _ _ (c .before .before .s .given .1) (c .before .before .before .before .summary-of .ensures)))
 
 enum-known-s-2 : tie.Need-enum-known-s-2
 enum-known-s-2 c = search needs
@@ -28,7 +28,7 @@ enum-known-s-2 c = search needs
 spread-layer-requires : tie.Need-spread-layer-requires
 spread-layer-requires c κs =
     let s = c .before .before .before .before .before .before .before in
-    (s .pre .0, (s .pre .1, spread-two _ _ _ _ (c .before .before .s2 .given .1) (c .before .before .before .before .summary-of .ensures)))
+    (s .pre .0, (s .pre .1 .0, (s .pre .1 .1, spread-two _ _ _ _ (c .before .before .s2 .given .1) (c .before .before .before .before .summary-of .ensures))))
 
 same-length : tie.Need-same-length
 same-length c = search needs

@@ -11,14 +11,14 @@ use mir.Facts.{toZ-pos, toZ-ofZ}
 use Rattle.layering.proofs.stored.Statement.{statement}
 use Rattle.layering.proofs.stored.Tie as tie
 
-small : (e : ℕ) → e ≤ 263 → SFits w32 (subℕ e 149)
+small : (e : ℕ) → e ≤ 277 → SFits w32 (subℕ e 149)
 small e h = go (decLt e 149)
   where
     go : Dec (e < 149) → SFits w32 (subℕ e 149)
     go (yes l) = rw (lt-ltb e 149 l) (record { sfits = omega arith })
     go (no l) = rw (le-ltb e 149 (omega arith)) (record { sfits = omega arith })
 
-difference : (e : ℕ) → e ≤ 263 → toZ w32 e -ℤ pos 149 ≡ subℕ e 149
+difference : (e : ℕ) → e ≤ 277 → toZ w32 e -ℤ pos 149 ≡ subℕ e 149
 difference e h = ap (λ (z : ℤ). z -ℤ pos 149) (toZ-pos w32 {n = e} (omega arith))
 
 cast-result : tie.Need-cast-result

@@ -1,5 +1,6 @@
 use borrow.Author.Needs.{needs}
 use native.Mathlib.Omega.{arith}
+use Prim.Native.Nat.{_+_}
 use Rattle.quick.proofs.Finest.{all-coarse, one-coarse}
 use Rattle.quick.proofs.codes_of.Statement.{statement}
 use Rattle.quick.proofs.codes_of.Tie as tie
@@ -17,7 +18,9 @@ smaller-requires : tie.Need-smaller-requires
 smaller-requires c κs = search needs
 
 codes-of-requires : tie.Need-codes-of-requires
-codes-of-requires c κs = search needs
+codes-of-requires c κs =
+    let p = c .before .before .before .before .before .before .before .before .pre in
+    (p .0, (p .1 .0, (p .1 .1 .0, (p .1 .1 .1 .0, (p .1 .1 .1 .1 .1 .1, p .1 .1 .1 .1 .1 .0)))))
 
 quick-codes-requires : tie.Need-quick-codes-requires
 quick-codes-requires c κs =
@@ -33,10 +36,13 @@ quick-codes-requires c κs =
       (
         p .1 .0,
         (
-          one-coarse (s .args .e) (s .args .r) (omega (arith, limit, low, least, o)),
+          one-coarse (s .args .e + s .args .width) (s .args .r) (omega (arith, limit, low, least, o)),
           (
             p .1 .1 .1 .0,
-            (all-coarse (s .args .mark) (s .args .e) (s .args .readings .now) (omega (arith, limit, fine, least, o)), p .1 .1 .1 .1),
+            (
+              p .1 .1 .1 .1 .0,
+              (p .1 .1 .1 .1 .1 .0, (all-coarse (s .args .mark) (s .args .e + s .args .width) (s .args .readings .now) (omega (arith, limit, fine, least, o)), p .1 .1 .1 .1 .1 .1)),
+            ),
           ),
         ),
       ),

@@ -1,12 +1,9 @@
-use mathlib.Core.Path.{_≡_, refl, sym, ap, _∙_}
+use mathlib.Core.Path.{_≡_, refl, ap, _∙_}
 use Prim.Native.Nat.{ℕ, _+_, _*_, _^_, _<_}
 use borrow.Author.Needs.{needs}
-use borrow.Author.Tests.{ne-eqb}
+use borrow.Author.Tests.{eq-eqb, ne-eqb}
 use lib.Ieee.{binary32, binary64, ofBits}
-use Rattle.meaning.specs.Readings.{magnitude, infinity}
-use Rattle.meaning.specs.Layers.{missingCode}
-use Rattle.meaning.proofs.Packing.{code-missing, code-present}
-use Rattle.codes.specs.Cut.{layerBy}
+use Rattle.meaning.specs.Readings.{magnitude, infinity, missing}
 use Rattle.quick.specs.declared.Lift.{Lift}
 use Rattle.quick.specs.Coarse.{liftOf}
 use Rattle.quick.proofs.Numbers.{coded, single-number, float-number, sum-number}
@@ -27,11 +24,7 @@ lift-is l e h = ap (λ (x : Lift). x .lift) h
 finite-coded : (c : tie.After-choose) → magnitude 23 8 (c .choose .result) < infinity 23 8
 finite-coded c =
     let s = c .before in
-    coded (s .args .w) (s .args .mark) (s .args .l .reference) (c .choose .result) (λ z. s .pre .1 .1 .1 .1 .0 z .finite) (s .pre .1 .0) (c .choose .ensures)
-
-missing-code : 65535 ≡ missingCode 16
-unfolding missingCode
-missing-code = refl
+    coded (s .args .w) (s .args .mark) (s .args .l .reference) (c .choose .result) (λ z. s .pre .1 .1 .1 .1 .1 .0 z .finite) (s .pre .1 .1 .0) (c .choose .ensures)
 
 choose-requires : tie.Need-choose-requires
 choose-requires c κs = search needs
@@ -46,27 +39,26 @@ float-to-bits-c : tie.Need-float-to-bits-c
 float-to-bits-c c =
     let k = c .before .before .before in
     let s = k .before in
-    rw (low-is (s .args .l) (s .args .e) (s .pre .0), lift-is (s .args .l) (s .args .e) (s .pre .0))
-    (sum-number (k .choose .result) (s .args .l .reference) (s .args .e) (finite-coded k) (s .pre .1 .0) (s .pre .1 .1 .0))
+    rw (low-is (s .args .l) (s .args .e) (s .pre .1 .0), lift-is (s .args .l) (s .args .e) (s .pre .1 .0))
+    (sum-number (k .choose .result) (s .args .l .reference) (s .args .e) (finite-coded k) (s .pre .1 .1 .0) (s .pre .1 .1 .1 .0))
 
 cast-result : tie.Need-cast-result
 cast-result c = search needs
 
 returns : tie.Need-returns
-returns c =
-    let s = c .before .before .before .before .before in
-    missing-code ∙ sym (code-missing 23 8 16 (s .args .mark) (layerBy (s .args .l .reference) (s .args .e)) (s .args .w) (c .if1 .taken))
+unfolding missing
+returns c = let s = c .before .before .before .before .before in rw (eq-eqb (s .args .w) (s .args .mark) (c .if1 .taken)) refl
 
 returns-2 : tie.Need-returns-2
+unfolding missing
 returns-2 c =
     let k = c .before .before .before .before in
     let s = k .before in
     let o = c .if1 .left in
-    let q = s .pre in
+    let q = s .pre .1 in
     let p : k .choose .result ≡ s .args .w = k .choose .ensures ∙ rw (ne-eqb (s .args .w) (s .args .mark) o) refl in
-    rw (p, low-is (s .args .l) (s .args .e) (q .0), lift-is (s .args .l) (s .args .e) (q .0))
-    (quick-code (s .args .w) (s .args .l .reference) (s .args .e) (q .1 .1 .1 .1 .0 o) (q .1 .0) (q .1 .1 .0) (q .1 .1 .1 .1 .1 o) (q .1 .1 .1 .0)
-    ∙ sym (code-present 23 8 16 (s .args .mark) (layerBy (s .args .l .reference) (s .args .e)) (s .args .w) o))
+    rw (p, low-is (s .args .l) (s .args .e) (q .0), lift-is (s .args .l) (s .args .e) (q .0), ne-eqb (s .args .w) (s .args .mark) o)
+    (quick-code (s .args .width) (s .args .w) (s .args .l .reference) (s .args .e) (s .pre .0) (q .1 .1 .1 .1 .0 o) (q .1 .1 .1 .1 .1 .1 o) (q .1 .0) (q .1 .1 .0) (q .1 .1 .1 .1 .1 .0 o) (q .1 .1 .1 .0))
 
 pub quick-code-spec : {M : Type 1} → statement M
 quick-code-spec =

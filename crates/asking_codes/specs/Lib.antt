@@ -1,0 +1,2 @@
+-- What the code finds of codes.
+pub mod Codes

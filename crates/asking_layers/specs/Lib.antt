@@ -1,0 +1,2 @@
+-- What the questions on layers give the code.
+pub mod LayerAsked

@@ -1,0 +1,2 @@
+-- The steps of a width.
+pub mod Steps

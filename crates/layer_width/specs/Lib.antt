@@ -1,0 +1,2 @@
+-- A width that packing takes.
+pub mod Width
