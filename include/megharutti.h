@@ -1,8 +1,8 @@
 /* Megharutti: trims false precision from IEEE 754 singles and doubles, compares raw readings with trimmed ones, and packs singles into layers
- * of codes of 2 to 16 bits.
+ * of codes of 2 to 16 bits. Converts arrays to byte planes and back, and trims in planes.
  *
- * Every call below is proved to give, for every input, what document 01 of the association defines, with requests (a), (b), (c) and (e) of its
- * document 02. What is proved and what is assumed of the caller stands in docs/PROOFS.md.
+ * Every call below is proved to give, for every input, what document 01 of the association defines, with requests (a), (b), (c), (e) and (f) of
+ * its document 02. What is proved and what is assumed of the caller stands in docs/PROOFS.md.
  *
  * Coming from version 1: the array for the counts has six elements and not four, so enlarge it, or the call writes behind it; and the answer of
  * megharutti_trim_single says more, so take (uint32_t)answer for the pattern, and answer >> 32 == 1 for a refusal.
@@ -38,6 +38,10 @@
  * which 2^w - 2 steps hold the layer's span, so that a code stands for a value within half a step of its reading. A code fills one uint16_t
  * whatever its width: its top 16 - w bits are 0, and whoever stores it may drop them. Keep the widths: without them codes can't be read.
  *
+ * Byte planes: the lowest bytes of all readings stand together, in the order of the readings, then all second bytes, and so on: 4 planes of n bytes
+ * each for n singles, 8 for n doubles. Byte b of reading i stands at planes[b * n + i], whatever the order of the machine's bytes. Trimmed readings
+ * have low bytes that are mostly alike, so a compressor does better on planes than on the array. It is what the Shuffle filter of HDF5 and netCDF does.
+ *
  * Refusals. The first question that is answered "no" gives its number, and then no array is written.
  *   1  is the method known?
  *   2  is its setting in range? (and, where arrays are compared, p)
@@ -50,13 +54,15 @@
  *  10  are the two arrays to be compared of one length?
  *  11  is each width 2 to 16? (asked after 5)
  *  12  is each code at most the missing code of its layer's width? (asked after 8)
+ *  13  has the plane buffer exactly 4 bytes (doubles: 8) for each reading? (asked after 2, where a trim asks that)
  *
  * An array is a pointer to its first element, and how many there are. The caller sees to it that the pointer is not NULL, also where there
  * are none, that it is aligned for its type, that so many elements stand there, and that an array which the call writes lies apart from all
  * others. Nobody else may write any of them during the call, or read those that the call writes. No call keeps a pointer, allocates memory,
  * or has state of its own: calls on different arrays may run at once.
+ * megharutti_trim_planes_singles and megharutti_trim_planes_doubles take up to 96 kB of the stack, the other calls less than 16 kB.
  *
- * Float settings. Floats are computed with by megharutti_trim_singles and megharutti_trim_doubles where the method is absolute, by
+ * Float settings. Floats are computed with by the calls that trim arrays or planes where the method is absolute, by
  * megharutti_pack and by megharutti_unpack. For these the caller sees to it that the processor rounds to nearest (fesetround) and traps no
  * float exception (feenableexcept), as a C program begins; they may raise exception flags. megharutti_first_beyond_singles and
  * megharutti_first_beyond_doubles compute with floats too: for these no exception may be trapped, flags may be raised, and how the
@@ -71,7 +77,7 @@
 #include <stdint.h>
 
 /* The version of this header, of the library and of the program trimlist. */
-#define MEGHARUTTI_VERSION "2.3.0"
+#define MEGHARUTTI_VERSION "2.4.0"
 
 #ifdef __cplusplus
 extern "C" {
@@ -101,7 +107,8 @@ enum megharutti_answer {
     MEGHARUTTI_MARK_NOT_NAN = 8,
     MEGHARUTTI_LENGTHS_DIFFER = 10,
     MEGHARUTTI_WIDTH_OUT_OF_RANGE = 11,
-    MEGHARUTTI_CODE_OUT_OF_RANGE = 12
+    MEGHARUTTI_CODE_OUT_OF_RANGE = 12,
+    MEGHARUTTI_PLANES_OF_WRONG_LENGTH = 13
 };
 
 /* The code of a missing reading in a layer of that width, 2 to 16: 2^width - 1. */
@@ -143,6 +150,21 @@ uint32_t megharutti_pack(const uint32_t *readings, size_t n, size_t length, uint
 uint32_t megharutti_unpack(const uint32_t *widths, size_t n_widths, const uint16_t *codes, size_t n_codes, const float *references,
                            size_t n_references, const int32_t *exponents, size_t n_exponents, size_t length, uint64_t mark, uint64_t *readings,
                            size_t n);
+
+/* Writes the byte planes of n readings, or the n readings that stand in byte planes. Answers 0; or 13, and writes nothing, unless n_planes is
+ * exactly 4 * n (doubles: 8 * n). One undoes the other. The two arrays may not overlap: convert to another array. */
+uint32_t megharutti_planes_of_singles(const uint32_t *readings, size_t n, uint8_t *planes, size_t n_planes);
+uint32_t megharutti_planes_of_doubles(const uint64_t *readings, size_t n, uint8_t *planes, size_t n_planes);
+uint32_t megharutti_singles_of_planes(const uint8_t *planes, size_t n_planes, uint32_t *readings, size_t n);
+uint32_t megharutti_doubles_of_planes(const uint8_t *planes, size_t n_planes, uint64_t *readings, size_t n);
+
+/* Trims n readings in their byte planes, in place: leaves the planes of what megharutti_trim_singles or megharutti_trim_doubles leaves of the array,
+ * with the same answer and the same counts. n is the number of readings, and n_planes that of bytes. Answers 0 and writes `counts`; or answers the
+ * refusal's number, 1, 2 or 13, asked in this order, and writes nothing. */
+uint32_t megharutti_trim_planes_singles(uint8_t *planes, size_t n_planes, size_t n, uint32_t method, int32_t setting, uint32_t mark,
+                                        uint64_t counts[6]);
+uint32_t megharutti_trim_planes_doubles(uint8_t *planes, size_t n_planes, size_t n, uint32_t method, int32_t setting, uint64_t mark,
+                                        uint64_t counts[6]);
 
 #ifdef __cplusplus
 }

@@ -202,6 +202,48 @@ int main(void) {
     check("a width of 17, before the mark", megharutti_unpack((const uint32_t[2]){2, 17}, 2, codes, 6, references, 2, exponents, 2, 3, 0, back, 6), 11);
     check("readings after these refusals", back[2], 0x4000000000000000);
 
+    /* byte planes: of four singles each plane has four bytes, of two doubles two */
+    uint32_t four[4] = {pi, 0x40490000, 0x3F800000, 0x00000001};
+    uint8_t planes[18] = {7, 7, 7, 7, 7, 7, 7, 7, 7, 7, 7, 7, 7, 7, 7, 7, 7, 7};
+    const uint8_t expected[16] = {0xDB, 0, 0, 1, 0x0F, 0, 0, 0, 0x49, 0x49, 0x80, 0, 0x40, 0x40, 0x3F, 0};
+    check("planes of singles, a byte too many", megharutti_planes_of_singles(four, 4, planes, 17), MEGHARUTTI_PLANES_OF_WRONG_LENGTH);
+    check("planes after a refusal", planes[0], 7);
+    check("planes of singles", megharutti_planes_of_singles(four, 4, planes, 16), 0);
+    for (int i = 0; i < 16; i++)
+        check("a byte of the planes", planes[i], expected[i]);
+    check("behind the planes", planes[16], 7);
+    counts[0] = 9;
+    check("trimmed in planes, a reading too many", megharutti_trim_planes_singles(planes, 16, 5, 4, 7, mark, counts), 13);
+    check("trimmed in planes, told 2^62 readings more", megharutti_trim_planes_singles(planes, 16, (size_t)4 + ((size_t)1 << 62), 4, 7, mark, counts), 13);
+    check("trimmed in planes, the setting is asked first", megharutti_trim_planes_singles(planes, 16, 5, 4, 24, mark, counts), 2);
+    check("trimmed in planes, the method before that", megharutti_trim_planes_singles(planes, 16, 5, 7, 24, mark, counts), 1);
+    check("counts after these refusals", counts[0], 9);
+    check("trimmed in planes", megharutti_trim_planes_singles(planes, 16, 4, 4, 7, mark, counts), 0);
+    check("changed in planes", counts[0], 2);
+    check("fallen in planes", counts[5], 2);
+    four[0] = 7;
+    check("singles of planes, a byte too few", megharutti_singles_of_planes(planes, 15, four, 4), 13);
+    check("singles after a refusal", four[0], 7);
+    check("singles of planes", megharutti_singles_of_planes(planes, 16, four, 4), 0);
+    check("pi rounded in planes", four[0], 0x40490000);
+    check("one in planes", four[2], 0x3F800000);
+    check("the least single rounded in planes", four[3], 0);
+
+    uint64_t two[2] = {0x400921FB54442D18, 0x0123456789ABCDEF};
+    const uint8_t bytes[16] = {0x18, 0xEF, 0x2D, 0xCD, 0x44, 0xAB, 0x54, 0x89, 0xFB, 0x67, 0x21, 0x45, 0x09, 0x23, 0x40, 0x01};
+    check("planes of doubles, as of singles", megharutti_planes_of_doubles(two, 2, planes, 8), 13);
+    check("planes of doubles", megharutti_planes_of_doubles(two, 2, planes, 16), 0);
+    for (int i = 0; i < 16; i++)
+        check("a byte of the planes of doubles", planes[i], bytes[i]);
+    check("doubles trimmed in planes, as singles", megharutti_trim_planes_doubles(planes, 16, 4, 0, 20, nan, counts), 13);
+    check("doubles trimmed in planes", megharutti_trim_planes_doubles(planes, 16, 2, 0, 20, nan, counts), 0);
+    check("doubles changed in planes", counts[0], 2);
+    check("doubles of planes, as of singles", megharutti_doubles_of_planes(planes, 8, two, 2), 13);
+    check("doubles of planes", megharutti_doubles_of_planes(planes, 16, two, 2), 0);
+    check("pi shaved in planes", two[0], 0x400921FB00000000);
+    check("the other double shaved in planes", two[1], 0x0123456700000000);
+    check("no readings at all", megharutti_planes_of_singles(four, 0, planes, 0), 0);
+
     if (!failed)
         puts("header: all calls as expected");
     return failed;

@@ -42,7 +42,7 @@ static void check(const char *what, uint64_t got, uint64_t expected) {
         printf("settings: %s: got %" PRIX64 ", expected %" PRIX64 "\n", what, got, expected);
 }
 
-/* ---- trimming: an array, and the loader's call on some of its places */
+/* ---- trimming: an array, the same in byte planes, and the loader's call on some of its places */
 
 enum { COUNTS = 6, GUARDS = 2, CHANGED = 0, RISEN = 4, FALLEN = 5 };
 static const uint64_t untold = 0x5A5A12345A5A4321; /* what the counts and the words behind them hold before a call */
@@ -83,16 +83,22 @@ static uint64_t number(uint32_t old, uint32_t new) {
 }
 
 static void trim_singles(const char *what, const uint32_t *in, int method, int setting, uint32_t missing, unsigned settings) {
-    static uint32_t left[2][N];
-    uint64_t counts[2][COUNTS + GUARDS], risen = 0, fallen = 0;
+    static uint32_t left[2][N], back[N];
+    static uint8_t planes[4 * N];
+    uint64_t counts[2][COUNTS + GUARDS], grouped[2][COUNTS + GUARDS], risen = 0, fallen = 0;
     uint32_t answer[2];
     int is = 1;
     untell(counts);
+    untell(grouped);
     for (int k = 0; k < 2; k++) {
         memcpy(left[k], in, sizeof left[k]);
         _mm_setcsr(k ? settings : USUAL);
         answer[k] = megharutti_trim_singles(left[k], N, method, setting, missing, counts[k]);
     }
+    /* the same in byte planes, with these settings */
+    uint32_t planes_answer = megharutti_planes_of_singles(in, N, planes, sizeof planes);
+    planes_answer |= megharutti_trim_planes_singles(planes, sizeof planes, N, method, setting, missing, grouped[0]);
+    planes_answer |= megharutti_singles_of_planes(planes, sizeof planes, back, N);
     uint64_t turn = 0; /* of grooming: so many present finite readings came before */
     for (int i = 0; i < N; i++) {
         if (i % 97 == 0)
@@ -107,19 +113,25 @@ static void trim_singles(const char *what, const uint32_t *in, int method, int s
     is &= counted(counts[1], answer[1], risen, fallen);
     any_risen += risen;
     any_fallen += fallen;
-    same(what, "method", method, "setting", setting, settings, is && answer[0] == answer[1] && !memcmp(left[0], left[1], sizeof left[0]) && !memcmp(counts[0], counts[1], sizeof counts[0]));
+    same(what, "method", method, "setting", setting, settings, is && answer[0] == answer[1] && answer[0] == planes_answer && !memcmp(left[0], back, sizeof back) && !memcmp(counts[0], grouped[0], sizeof counts[0]) && !memcmp(left[0], left[1], sizeof left[0]) && !memcmp(counts[0], counts[1], sizeof counts[0]));
 }
 
 static void trim_doubles(const char *what, const uint64_t *in, int method, int setting, uint64_t missing, unsigned settings) {
-    static uint64_t left[2][N];
-    uint64_t counts[2][COUNTS + GUARDS], risen = 0, fallen = 0;
+    static uint64_t left[2][N], back[N];
+    static uint8_t planes[8 * N];
+    uint64_t counts[2][COUNTS + GUARDS], grouped[2][COUNTS + GUARDS], risen = 0, fallen = 0;
     uint32_t answer[2];
     untell(counts);
+    untell(grouped);
     for (int k = 0; k < 2; k++) {
         memcpy(left[k], in, sizeof left[k]);
         _mm_setcsr(k ? settings : USUAL);
         answer[k] = megharutti_trim_doubles(left[k], N, method, setting, missing, counts[k]);
     }
+    /* the same in byte planes, with these settings */
+    uint32_t planes_answer = megharutti_planes_of_doubles(in, N, planes, sizeof planes);
+    planes_answer |= megharutti_trim_planes_doubles(planes, sizeof planes, N, method, setting, missing, grouped[0]);
+    planes_answer |= megharutti_doubles_of_planes(planes, sizeof planes, back, N);
     _mm_setcsr(USUAL);
     for (int i = 0; i < N; i++) {
         risen += moved(in[i], left[0][i], 52, 63) > 0;
@@ -128,7 +140,7 @@ static void trim_doubles(const char *what, const uint64_t *in, int method, int s
     int is = counted(counts[1], answer[1], risen, fallen);
     any_risen += risen;
     any_fallen += fallen;
-    same(what, "method", method, "setting", setting, settings, is && answer[0] == answer[1] && !memcmp(left[0], left[1], sizeof left[0]) && !memcmp(counts[0], counts[1], sizeof counts[0]));
+    same(what, "method", method, "setting", setting, settings, is && answer[0] == answer[1] && answer[0] == planes_answer && !memcmp(left[0], back, sizeof back) && !memcmp(counts[0], grouped[0], sizeof counts[0]) && !memcmp(left[0], left[1], sizeof left[0]) && !memcmp(counts[0], counts[1], sizeof counts[0]));
 }
 
 /* ---- layers: readings packed in layers of `length` and of any widths, and codes unpacked with the widths, references and exponents of some layers */

@@ -5,10 +5,12 @@ ghost use mathlib.Core.List.{map};
 ghost use lib.Ieee.{binary32, toBits};
 ghost use Rattle.meaning.specs.Calls.{trimSingles, trimDoubles, loader, unpack};
 ghost use Rattle.meaning.specs.Comparing.{firstBeyondSingles, firstBeyondDoubles};
+ghost use Rattle.meaning.specs.Planes.{toPlanes, fromPlanes, trimPlanesSingles, trimPlanesDoubles};
 ghost use Rattle.trim.specs.Answers.{answerOf};
 ghost use Rattle.beyond.specs.Answers as beyond;
 ghost use Rattle.packing.specs.Answers as packing;
 ghost use Rattle.unpacking.specs.Answers as unpacking;
+ghost use Rattle.planes.specs.Answers as planes;
 ghost use Rattle.capi.specs.ForC.{numberForC, countsForC, foundForC};
 
 // An answer in C's form.
@@ -186,4 +188,89 @@ pub extern "C" fn megharutti_unpack(
 {
     let answer = unpacking::unpack(widths, codes, references, exponents, length, mark, readings);
     unpacked_number(answer)
+}
+
+fn converted_number(answer: planes::Converted) -> u32
+    ensures { λ r. ⌜ r ≡ numberForC (planes.answerOf answer) ⌝ }
+{
+    match answer {
+        planes::Converted::Done => 0,
+        planes::Converted::Refused(n) => n,
+    }
+}
+
+// Writes the four byte planes of an array of singles, lowest byte first.
+#[no_mangle]
+pub extern "C" fn megharutti_planes_of_singles(readings: &[u32], planes: &mut [u8]) -> u32
+    ensures answer { λ r. ⌜ r ≡ numberForC (toPlanes 4 (now (readings .entry)) (now (planes .entry)) .answer) ⌝ }
+    ensures content { λ _. ⌜ now (planes .exit) ≡ toPlanes 4 (now (readings .entry)) (now (planes .entry)) .content ⌝ }
+{
+    let answer = planes::planes_of_singles(readings, planes);
+    converted_number(answer)
+}
+
+// Writes the array of singles that stands in four byte planes.
+#[no_mangle]
+pub extern "C" fn megharutti_singles_of_planes(planes: &[u8], readings: &mut [u32]) -> u32
+    ensures answer { λ r. ⌜ r ≡ numberForC (fromPlanes 4 (now (planes .entry)) (now (readings .entry)) .answer) ⌝ }
+    ensures content { λ _. ⌜ now (readings .exit) ≡ fromPlanes 4 (now (planes .entry)) (now (readings .entry)) .content ⌝ }
+{
+    let answer = planes::singles_of_planes(planes, readings);
+    converted_number(answer)
+}
+
+// Trims n singles in their byte planes. `counts` gets what it gets of an array.
+#[no_mangle]
+pub extern "C" fn megharutti_trim_planes_singles(
+    planes: &mut [u8],
+    n: usize,
+    method: u32,
+    setting: i32,
+    mark: u32,
+    counts: &mut [u64; 6],
+) -> u32
+    ensures answer { λ r. ⌜ r ≡ numberForC (trimPlanesSingles method setting mark n (now (planes .entry)) .answer) ⌝ }
+    ensures content { λ _. ⌜ now (planes .exit) ≡ trimPlanesSingles method setting mark n (now (planes .entry)) .content ⌝ }
+    ensures counted { λ _. ⌜ now (counts .exit) ≡ countsForC (trimPlanesSingles method setting mark n (now (planes .entry)) .answer) (now (counts .entry)) ⌝ }
+{
+    let answer = planes::trim_planes_singles(planes, n, method, setting, mark);
+    hand_over(answer, counts)
+}
+
+// Writes the eight byte planes of an array of doubles, lowest byte first.
+#[no_mangle]
+pub extern "C" fn megharutti_planes_of_doubles(readings: &[u64], planes: &mut [u8]) -> u32
+    ensures answer { λ r. ⌜ r ≡ numberForC (toPlanes 8 (now (readings .entry)) (now (planes .entry)) .answer) ⌝ }
+    ensures content { λ _. ⌜ now (planes .exit) ≡ toPlanes 8 (now (readings .entry)) (now (planes .entry)) .content ⌝ }
+{
+    let answer = planes::planes_of_doubles(readings, planes);
+    converted_number(answer)
+}
+
+// Writes the array of doubles that stands in eight byte planes.
+#[no_mangle]
+pub extern "C" fn megharutti_doubles_of_planes(planes: &[u8], readings: &mut [u64]) -> u32
+    ensures answer { λ r. ⌜ r ≡ numberForC (fromPlanes 8 (now (planes .entry)) (now (readings .entry)) .answer) ⌝ }
+    ensures content { λ _. ⌜ now (readings .exit) ≡ fromPlanes 8 (now (planes .entry)) (now (readings .entry)) .content ⌝ }
+{
+    let answer = planes::doubles_of_planes(planes, readings);
+    converted_number(answer)
+}
+
+// Trims n doubles in their byte planes. `counts` gets what it gets of an array.
+#[no_mangle]
+pub extern "C" fn megharutti_trim_planes_doubles(
+    planes: &mut [u8],
+    n: usize,
+    method: u32,
+    setting: i32,
+    mark: u64,
+    counts: &mut [u64; 6],
+) -> u32
+    ensures answer { λ r. ⌜ r ≡ numberForC (trimPlanesDoubles method setting mark n (now (planes .entry)) .answer) ⌝ }
+    ensures content { λ _. ⌜ now (planes .exit) ≡ trimPlanesDoubles method setting mark n (now (planes .entry)) .content ⌝ }
+    ensures counted { λ _. ⌜ now (counts .exit) ≡ countsForC (trimPlanesDoubles method setting mark n (now (planes .entry)) .answer) (now (counts .entry)) ⌝ }
+{
+    let answer = planes::trim_planes_doubles(planes, n, method, setting, mark);
+    hand_over(answer, counts)
 }

@@ -44,7 +44,7 @@ fn fits_trim(row: &[u8]) -> bool {
     }
 }
 
-// The kinds of `layers.rt`, `limits.rt` and `texts.rt`, and then the others.
+// The kinds of `layers.rt`, `limits.rt`, `grouped.rt` and `texts.rt`, and then the others.
 fn fits_any(row: &[u8]) -> bool {
     match initial(row, 0) {
         b'r' => fits(
@@ -74,6 +74,14 @@ fn fits_any(row: &[u8]) -> bool {
         b'o' => fits(
             row,
             b"outside|source:any|p:integer|raw:double?*3|trimmed:double?*4|mark:double?|place:quantity?|read:quantity?|refusal:refusal",
+        ),
+        b'g' => fits(
+            row,
+            b"grouped|source:any|method:method|setting:integer|readings:single*4|mark:single?|planes:single*4",
+        ),
+        b'h' => fits(
+            row,
+            b"held|source:any|method:method|setting:integer|readings:quantity|more bytes:quantity|told:hexadecimal|refusal:refusal",
         ),
         b'f' => fits(row, b"file|source:any|text:text|what must come:text"),
         _ => fits_trim(row),

@@ -1,4 +1,6 @@
 // The rows of the table: a case to a line, with bars between its fields. A line that begins with # is printed as it stands.
+use crate::grouped::grouped;
+use crate::grouped::held;
 use crate::kinds::is_readable;
 use crate::layers::asked_layer;
 use crate::layers::asked_pack;
@@ -41,6 +43,8 @@ fn right(row: &[u8]) -> bool {
         b'v' => asked_layer(row),
         b'e' => exceeds(row),
         b'o' => outside(row),
+        b'g' => grouped(row),
+        b'h' => held(row),
         b'f' => file(row),
         _ => false,
     }

@@ -198,7 +198,7 @@ pub fn double(row: &[u8]) -> bool {
     judge_fate(row, fill(at, 92), ok, got_fate)
 }
 
-fn number_of(answer: trim::Answer) -> u32 {
+pub fn number_of(answer: trim::Answer) -> u32 {
     match answer {
         trim::Answer::Counts {
             changed: _,
@@ -212,7 +212,7 @@ fn number_of(answer: trim::Answer) -> u32 {
     }
 }
 
-fn is_refused(answer: trim::Answer) -> bool {
+pub fn is_refused(answer: trim::Answer) -> bool {
     number_of(answer) != 0
 }
 

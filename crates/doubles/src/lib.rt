@@ -134,7 +134,7 @@ pub struct Job {
 }
 
 // The trim by a method's number and its natural setting. Methods 5 and 6 have no tail.
-fn job_double(method: u32, n: u32) -> Job
+pub fn job_double(method: u32, n: u32) -> Job
     requires { ⌜ Fitting method n 52 15 ⌝ }
     ensures method { λ r. ⌜ r .method ≡ method ⌝ }
     ensures setting { λ r. ⌜ r .n ≡ n ⌝ }
@@ -182,7 +182,7 @@ fn plain_doubles(readings: &mut [u64], job: Job, mark: u64) -> loops::Totals
 }
 
 // An array, or a part of one, where grooming's first turn puts `add` into the tail.
-fn part_doubles(readings: &mut [u64], job: Job, add: u64, mark: u64) -> groom_doubles::Part
+pub fn part_doubles(readings: &mut [u64], job: Job, add: u64, mark: u64) -> groom_doubles::Part
     requires { ⌜ (Suits 52 15 (job .method) (job .n) (constantsOf (job .tail))) × (Filling (job .tail .ones) add) ⌝ }
     ensures sums { λ r. ⌜ totalsOf (r .sums) ≡ talliedBy (nextWith 52 11 (job .method) (job .n) mark) (settledWith 52 11 (job .method) (job .n) mark) add (now (readings .entry)) ⌝ }
     ensures add { λ r. ⌜ r .add ≡ stateAt (nextWith 52 11 (job .method) (job .n) mark) add (now (readings .entry)) (length (now (readings .entry))) ⌝ }

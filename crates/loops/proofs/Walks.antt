@@ -16,16 +16,16 @@ use Rattle.loops.proofs.Tallies.{few-none, few-wider, few-plus, plus-no
 
 -- ---- walks of joined lists
 
-state-append : (next : ℕ → ℕ → ℕ) (s : ℕ) (us vs : List ℕ) → stateAt next s (us ++ vs) (length (us ++ vs)) ≡ stateAt next (stateAt next s us (length us)) vs (length vs)
+pub state-append : (next : ℕ → ℕ → ℕ) (s : ℕ) (us vs : List ℕ) → stateAt next s (us ++ vs) (length (us ++ vs)) ≡ stateAt next (stateAt next s us (length us)) vs (length vs)
 state-append next s [] vs = refl
 state-append next s (w ∷ us) vs = state-append next (next w s) us vs
 
 module _ (next : ℕ → ℕ → ℕ) (f : ℕ → ℕ → Settled) where
-  walked-append : (s : ℕ) (us vs : List ℕ) → walkedBy next f s (us ++ vs) ≡ walkedBy next f s us ++ walkedBy next f (stateAt next s us (length us)) vs
+  pub walked-append : (s : ℕ) (us vs : List ℕ) → walkedBy next f s (us ++ vs) ≡ walkedBy next f s us ++ walkedBy next f (stateAt next s us (length us)) vs
   walked-append s [] vs = refl
   walked-append s (w ∷ us) vs = ap (λ (l : List ℕ). f s w .pattern ∷ l) (walked-append (next w s) us vs)
 
-  tallied-append : (s : ℕ) (us vs : List ℕ) → talliedBy next f s (us ++ vs) ≡ plus (talliedBy next f s us) (talliedBy next f (stateAt next s us (length us)) vs)
+  pub tallied-append : (s : ℕ) (us vs : List ℕ) → talliedBy next f s (us ++ vs) ≡ plus (talliedBy next f s us) (talliedBy next f (stateAt next s us (length us)) vs)
   tallied-append s [] vs = sym (none-plus (talliedBy next f s vs))
   tallied-append s (w ∷ us) vs =
       ap (plus (f s w .tally)) (tallied-append (next w s) us vs)
@@ -35,7 +35,7 @@ module _ (next : ℕ → ℕ → ℕ) (f : ℕ → ℕ → Settled) where
   walked-length s [] = refl
   walked-length s (w ∷ ws) = ap suc (walked-length (next w s) ws)
 
-  few-tallied : ((s w : ℕ) → Few (f s w .tally) 1) → (s : ℕ) (ws : List ℕ) → Few (talliedBy next f s ws) (length ws)
+  pub few-tallied : ((s w : ℕ) → Few (f s w .tally) 1) → (s : ℕ) (ws : List ℕ) → Few (talliedBy next f s ws) (length ws)
   few-tallied ones s [] = few-none
   few-tallied ones s (w ∷ ws) =
       few-wider (talliedBy next f s (w ∷ ws)) (1 + length ws) (suc (length ws)) (omega arith)

@@ -4,6 +4,7 @@ pub mod CasesBeyond
 pub mod CasesCompared
 pub mod CasesEdges
 pub mod CasesMoves
+pub mod CasesPlanes
 pub mod CasesRefusals
 pub mod CasesRows
 pub mod CasesTurns
@@ -32,3 +33,4 @@ pub mod Layering
 pub mod Packed
 pub mod Loader
 pub mod OldForm
+pub mod Planes

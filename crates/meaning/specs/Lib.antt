@@ -7,3 +7,4 @@ pub mod Calls
 pub mod Claim
 pub mod Comparing
 pub mod OldForm
+pub mod Planes

@@ -1,10 +1,10 @@
 -- A part of a slice that was lent on: the slice once the part has come back.
 use Prim.Native.Nat.{ℕ, _+_, _-_, _≤_}
 use native.Mathlib.Omega.{arith}
-use mathlib.Core.Path.{_≡_, sym, ap, _∙_}
+use mathlib.Core.Path.{_≡_, refl, sym, ap, _∙_}
 use mathlib.Core.List.{List, _++_, append-assoc}
-use lib.ListN.{length, take, drop, length-append, length-take, length-drop}
-use lib.Seq.{take-at, drop-at, drop-drop, take-take, take-add, take-append-le}
+use lib.ListN.{length, take, drop, length-append, length-take, length-drop, take-append-drop}
+use lib.Seq.{take-at, drop-at, drop-drop, take-take, take-add, take-append-le, drop-append-le, length-take-le}
 
 -- the whole, once its part from a on, k elements long, has come back as ys
 abbrev pub back : {A : Type 0} → List A → ℕ → ℕ → List A → List A
@@ -49,3 +49,32 @@ back-after xs a k ys m b e h g =
     ∙ ap (drop (b - (a + k))) (drop-back xs a k ys e g ∙ drop-drop k a xs)
     ∙ drop-drop (b - (a + k)) (a + k) xs
     ∙ ap (λ (n : ℕ). drop n xs) {x = a + k + (b - (a + k))} {y = b} (omega arith))
+
+-- ---- two parts, one after the other
+
+-- two parts side by side are one
+pub back-join : {A : Type 0} (xs : List A) (a j k : ℕ) (ys zs : List A) → length ys ≡ j → a + j ≤ length xs → back xs a (j + k) (ys ++ zs) ≡ back (back xs a j ys) (a + j) k zs
+back-join xs a j k ys zs e h =
+    rw (take-back xs a j ys e h, drop-back xs a j ys e h, append-assoc, append-assoc, drop-drop k j (drop a xs)) refl
+
+-- a part of what stands in front, and a part of what stands behind
+back-front : {A : Type 0} (ps qs : List A) (a k : ℕ) (ys : List A) → a + k ≤ length ps → back (ps ++ qs) a k ys ≡ back ps a k ys ++ qs
+back-front ps qs a k ys h =
+    rw (take-append-le a ps qs (omega arith), drop-append-le a ps qs (omega arith), drop-append-le k (drop a ps) qs (simp length-drop (omega arith)), append-assoc, append-assoc) refl
+
+back-behind : {A : Type 0} (ps qs : List A) (b k : ℕ) (ys : List A) → length ps ≡ b → back (ps ++ qs) b k ys ≡ ps ++ (ys ++ drop k qs)
+back-behind ps qs b k ys e = rw (take-at ps qs b e, drop-at ps qs b e) refl
+
+-- of two parts that don't meet, either may come back first
+pub back-apart : {A : Type 0} (xs : List A) (a j b k : ℕ) (ys zs : List A) → length ys ≡ j → a + j ≤ b → b ≤ length xs
+    → back (back xs a j ys) b k zs ≡ back (back xs b k zs) a j ys
+back-apart xs a j b k ys zs e h l =
+    let ps = take b xs in
+    let qs = drop b xs in
+    let n : length ps ≡ b = length-take-le b xs l in
+    ap (λ us. back (back us a j ys) b k zs) (sym (take-append-drop b xs))
+    ∙ ap (λ us. back us b k zs) (back-front ps qs a j ys (omega arith))
+    ∙ back-behind (back ps a j ys) qs b k zs (length-back ps a j ys e (omega arith) ∙ n)
+    ∙ sym (back-front ps (zs ++ drop k qs) a j ys (omega arith))
+    ∙ sym (ap (λ us. back us a j ys) (back-behind ps qs b k zs n))
+    ∙ ap (λ us. back (back us b k zs) a j ys) (take-append-drop b xs)

@@ -203,7 +203,7 @@ pub struct Job {
 }
 
 // The trim by a method's number and its natural setting. Methods 5 and 6 have no tail.
-fn job_single(method: u32, n: u32) -> Job
+pub fn job_single(method: u32, n: u32) -> Job
     requires { ⌜ Fitting method n 23 7 ⌝ }
     ensures method { λ r. ⌜ r .method ≡ method ⌝ }
     ensures setting { λ r. ⌜ r .n ≡ n ⌝ }
@@ -268,7 +268,7 @@ fn all_singles(readings: &mut [u32], job: Job, mark: u32) -> loops::Totals
 }
 
 // An array, or a part of one, where grooming's first turn puts `add` into the tail.
-fn part_singles(readings: &mut [u32], job: Job, add: u32, mark: u32) -> groom_singles::Part
+pub fn part_singles(readings: &mut [u32], job: Job, add: u32, mark: u32) -> groom_singles::Part
     requires { ⌜ (Suits 23 7 (job .method) (job .n) (constantsOf (job .tail))) × (Filling (job .tail .ones) add) ⌝ }
     ensures sums { λ r. ⌜ totalsOf (r .sums) ≡ talliedBy (nextWith 23 8 (job .method) (job .n) mark) (settledWith 23 8 (job .method) (job .n) mark) add (now (readings .entry)) ⌝ }
     ensures add { λ r. ⌜ r .add ≡ stateAt (nextWith 23 8 (job .method) (job .n) mark) add (now (readings .entry)) (length (now (readings .entry))) ⌝ }
