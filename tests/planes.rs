@@ -795,7 +795,7 @@ fn promise<T: Pattern>(t: &mut Tally, model: &Model, n: usize, method: u32) {
 /// Lengths about each end of a usual block, and of several blocks with a rest.
 fn lengths() -> Vec<usize> {
     let mut out = vec![0, 1, 2, 3, 4, 5, 6, 7, 8, 9, 11, 13, 24, 40, 100, 1000, 5000, 20_000, 40_001];
-    out.extend([16, 32, 64, 128, 256, 512, 1024, 2048, 4096, 8192, 65_536].iter().flat_map(|at| [at - 1, *at, at + 1]));
+    out.extend([16, 32, 64, 128, 256, 512, 1024, 2048, 4096, 8192, 16_384, 32_768, 65_536].iter().flat_map(|at| [at - 1, *at, at + 1]));
     out.extend([70_000, 131_072, 131_073, 200_003]);
     out.sort();
     out

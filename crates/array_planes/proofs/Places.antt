@@ -1,5 +1,5 @@
 -- What is written to planes and read from them, for every number of bytes: part after part, the bytes of a reading in two halves, and all readings at once.
-use mathlib.Core.Path.{_≡_, refl, sym, ap, ap₂, _∙_, subst}
+use mathlib.Core.Path.{_≡_, refl, sym, ap, ap₂, _∙_}
 use mathlib.Core.List.{List, [], _∷_, _++_, map, zipWith, append-assoc, append-nil}
 use Prim.Native.Nat.{ℕ, zero, suc, _+_, _-_, _*_, _/_, _%_, _^_, _≤_, _<_}
 use native.Mathlib.Nat.{pow-zero, pow-suc, suc-mul, mul-assoc, mul-comm, zero-mul, add-mul, div-one, div-div-eq-div-mul}
@@ -8,6 +8,7 @@ use lib.Arith.{mod-mul}
 use lib.ListN.{length, take, drop, replicate, length-take, length-drop, length-map, length-replicate}
 use lib.Seq.{take-all, take-add, drop-drop, length-take-le}
 use Rattle.meaning.specs.Planes.{planes, readings}
+use Rattle.meaning.proofs.Planes.{zip-length}
 use Rattle.parts.proofs.Back.{back, length-back, take-back, back-own, back-before, back-after, back-join, back-apart}
 use Rattle.array_planes.specs.Places.{stored, fetched, Room}
 
@@ -24,12 +25,6 @@ map-as f g e (w ∷ ws) = ap₂ (λ (x : ℕ) (l : List ℕ). x ∷ l) (e w) (ma
 map-map : (f g : ℕ → ℕ) (ws : List ℕ) → map f (map g ws) ≡ map (λ w. f (g w)) ws
 map-map f g [] = refl
 map-map f g (w ∷ ws) = ap (λ (l : List ℕ). f (g w) ∷ l) (map-map f g ws)
-
-zip-length : (f : ℕ → ℕ → ℕ) (xs ys : List ℕ) → length xs ≡ length ys → length (zipWith f xs ys) ≡ length xs
-unfolding zipWith
-zip-length f [] ys e = refl
-zip-length f (x ∷ xs) [] e = absurd (omega arith)
-zip-length f (x ∷ xs) (y ∷ ys) e = ap suc (zip-length f xs ys (omega arith))
 
 zip-append : (f : ℕ → ℕ → ℕ) (us vs xs ys : List ℕ) → length us ≡ length xs → zipWith f (us ++ vs) (xs ++ ys) ≡ zipWith f us xs ++ zipWith f vs ys
 unfolding zipWith
@@ -323,7 +318,6 @@ module _ (B n a k : ℕ) (ps : List ℕ) where
       → us ≡ fetched B n a (length (take (k - 0) (drop 0 y))) ps → vs ≡ fetched B n (B * n + a) (length (take (k - 0) (drop 0 z))) ps
       → zipWith (λ low high. low + 256 ^ B * high) (take (k - 0) (drop 0 (back y 0 (k - 0) us))) (take (k - 0) (drop 0 (back z 0 (k - 0) vs))) ≡ fetched (B + B) n a k ps
   fetched-block y z h l r {us} {vs} eu ev =
-      let f : B + B ≡ B + B = refl in
       let m : (B + B) * n ≡ B * n + B * n = add-mul B B n in
       let ul : us ≡ fetched B n a k ps = eu ∙ ap (λ (j : ℕ). fetched B n a j ps) (front-long y k h) in
       let vl : vs ≡ fetched B n (B * n + a) k ps = ev ∙ ap (λ (j : ℕ). fetched B n (B * n + a) j ps) (front-long z k l) in

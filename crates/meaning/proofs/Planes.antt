@@ -1,8 +1,8 @@
 -- Planes and readings undo each other, for every number of bytes; trimming in planes gives the planes of the trimmed array and the same answer, in one call and in every list
 -- of calls.
 use mathlib.Core.Path.{_≡_, refl, sym, ap, ap₂, _∙_}
-use mathlib.Core.Bool.{Bool, true, false, cond, _&&_}
-use mathlib.Core.List.{List, [], _∷_, _++_, map, zipWith}
+use mathlib.Core.Bool.{true, cond}
+use mathlib.Core.List.{List, [], _∷_, map, zipWith}
 use Prim.Native.Nat.{ℕ, zero, suc, _+_, _*_, _/_, _%_, _^_, _<_}
 use native.Mathlib.Nat.{pow-suc, mul-suc}
 use native.Mathlib.Omega.{arith}
@@ -13,8 +13,8 @@ use lib.ListN.{length, take, drop, replicate, length-append, length-take, length
 use lib.Seq.{take-at, drop-at}
 use Rattle.meaning.specs.Methods.{Method, trimmed, turnAfter, trimFrom}
 use Rattle.meaning.specs.Questions.{Outcome, refused, accepted, all, ask, trimQuestions}
-use Rattle.meaning.specs.Calls.{Call, answering, leaving, trim, inTurn}
-use Rattle.meaning.specs.Planes.{planes, readings, planesFit, planesQuestion, toPlanes, fromPlanes, trimPlanesQuestions, trimPlanes, inTurnPlanes, InBytes, Inverse, InPlanes}
+use Rattle.meaning.specs.Calls.{Call, leaving, trim, inTurn}
+use Rattle.meaning.specs.Planes.{planes, readings, planesQuestion, toPlanes, fromPlanes, trimPlanesQuestions, trimPlanes, inTurnPlanes, InBytes, Inverse, InPlanes}
 use Rattle.meaning.proofs.Accepted.{and-first, and-second}
 use Rattle.meaning.proofs.Laws.{laws}
 
@@ -84,11 +84,11 @@ planes-length (suc B) ws =
     simp (length-append, length-map)
     (omega (arith, planes-length B (map (λ w. w / 256) ws), ap (λ (n : ℕ). n * B) (length-map ws (λ (w : ℕ). w / 256)), mul-suc (length ws) B))
 
-zip-length : (xs ys : List ℕ) → length xs ≡ length ys → length (zipWith (λ low above. low + 256 * above) xs ys) ≡ length xs
+pub zip-length : (f : ℕ → ℕ → ℕ) (xs ys : List ℕ) → length xs ≡ length ys → length (zipWith f xs ys) ≡ length xs
 unfolding zipWith
-zip-length [] ys e = refl
-zip-length (x ∷ xs) [] e = absurd (omega arith)
-zip-length (x ∷ xs) (y ∷ ys) e = ap suc (zip-length xs ys (omega arith))
+zip-length f [] ys e = refl
+zip-length f (x ∷ xs) [] e = absurd (omega arith)
+zip-length f (x ∷ xs) (y ∷ ys) e = ap suc (zip-length f xs ys (omega arith))
 
 module _ (B n : ℕ) (ps : List ℕ) (h : length ps ≡ n * suc B) where
   first-plane : length (take n ps) ≡ n
@@ -102,7 +102,7 @@ unfolding readings
 readings-length zero n ps h = length-replicate n 0
 readings-length (suc B) n ps h =
     let a = first-plane B n ps h in
-    zip-length (take n ps) (readings B n (drop n ps)) (a ∙ sym (readings-length B n (drop n ps) (later-planes B n ps h))) ∙ a
+    zip-length (λ low above. low + 256 * above) (take n ps) (readings B n (drop n ps)) (a ∙ sym (readings-length B n (drop n ps) (later-planes B n ps h))) ∙ a
 
 -- low bytes and what stands above them come apart again
 low-part : (xs ys : List ℕ) → length xs ≡ length ys → InBytes 1 xs → map (λ w. w % 256) (zipWith (λ low above. low + 256 * above) xs ys) ≡ xs

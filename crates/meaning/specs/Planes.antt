@@ -93,10 +93,10 @@ pub record Inverse (B : ℕ) : Type 0 where
   -- and so an array goes through a buffer of the right length, whatever this and the array that comes back held before
   pub converted : (ws buffer before : List ℕ) → InBytes B ws → length buffer ≡ length ws * B → length before ≡ length ws → fromPlanes B (toPlanes B ws buffer .content) before .content ≡ ws
 
--- "Trimming in planes must give the planes of the trimmed array, for every method, and the same counts"; refused calls included
+-- "Trimming in planes must give the planes of the trimmed array, for every method, and the same counts"; calls that are refused by 1 or 2 included
 pub record InPlanes (B F X : ℕ) : Type 0 where
   pub same-answer : (method : ℕ) (setting : ℤ) (mark : ℕ) (ws : List ℕ) → InBytes B ws → trimPlanes B F X method setting mark (length ws) (planes B ws) .answer ≡ trim F X method setting mark ws .answer
   pub same-planes : (method : ℕ) (setting : ℤ) (mark : ℕ) (ws : List ℕ) → InBytes B ws
       → trimPlanes B F X method setting mark (length ws) (planes B ws) .content ≡ planes B (trim F X method setting mark ws .readings)
-  -- and so after every list of calls, refused ones included: what demand 3 says of an array is said of its planes
+  -- and so after every list of calls, those refused by 1 or 2 included: what demand 3 says of an array is said of its planes. A call refused by 13 leaves the planes as they were
   pub same-in-turn : 2 ^ suc (F + X) ≡ 256 ^ B → (cs : List Call) (mark : ℕ) (ws : List ℕ) → InBytes B ws → inTurnPlanes B F X cs mark (length ws) (planes B ws) ≡ planes B (inTurn F X cs mark ws)

@@ -1,7 +1,6 @@
 -- The planes trimmed block by block are the planes of the trimmed array: the first a readings are trimmed, their planes stand in the buffer, and the rest is as it was. For every
 -- number of bytes and both widths.
 use mathlib.Core.Path.{_≡_, refl, sym, ap, ap₂, _∙_, subst}
-use mathlib.Core.Logic.{inl}
 use mathlib.Core.Bool.{Bool, true, false}
 use mathlib.Core.List.{List, [], _++_}
 use Prim.Native.Nat.{ℕ, _+_, _-_, _*_, _≤_}
@@ -9,18 +8,18 @@ use native.Mathlib.Nat.{mul-comm, zero-add}
 use native.Mathlib.Decide.{ℕ-discrete}
 use native.Mathlib.Omega.{arith}
 use lib.Dec.{eqb}
-use lib.ListN.{length, take, drop, length-take}
+use lib.ListN.{length}
 use lib.Seq.{take-all}
 use Rattle.meaning.specs.Methods.{turnAfter}
 use Rattle.meaning.specs.Planes.{planes, readings}
 use Rattle.meaning.proofs.Planes.{readings-length}
 use Rattle.asking.specs.Asked.{methodBy}
 use Rattle.reading.specs.Left.{Tally, Settled, settledBy, settledTail}
-use Rattle.reading.specs.Tails.{Constants, constants}
+use Rattle.reading.specs.Tails.{Constants}
 use Rattle.loops.specs.Tallies.{none, plus, Few}
 use Rattle.loops.specs.Walk.{stateAt, walkedBy, talliedBy}
 use Rattle.loops.specs.Methods.{Suits, Filling, settledIf, settledWith, nextWith}
-use Rattle.loops.proofs.Tallies.{one-by, one-tail, few-none, few-plus, few-wider}
+use Rattle.loops.proofs.Tallies.{one-by, one-tail, few-none, few-plus}
 use Rattle.loops.proofs.Walks.{state-append, walked-append, tallied-append, walked-length, few-tallied}
 use Rattle.loops.proofs.Turns.{states-two}
 use Rattle.loops.proofs.Methods.{suits-keep, groom-state, other-state, whole-walked, whole-tallied}
@@ -150,10 +149,6 @@ module _ (F X method n mark : ℕ) where
           let l : method ≤ 4 = omega arith in
           subst (Filling (c .ones)) (sym (e ∙ sym (groom-state F X method n mark two c (suits-keep suits l) s ws))) (states-two F X mark (c .ones) s h ws (length ws))
       go (no other) = subst (Filling (c .ones)) (sym (e ∙ sym (other-state F X method n mark other s ws))) h
-
--- the front of the room that is lent for a block
-pub front-length : (xs : List ℕ) (k : ℕ) → k ≤ length xs → length (take (k - 0) (drop 0 xs)) ≡ k
-front-length xs k h = simp length-take (omega arith)
 
 -- the walk from the first turn on is the method's
 pub by-method : (F X B n mark : ℕ) (ps : List ℕ) {method number m k : ℕ} {t : Tally} {qs : List ℕ} → m ≡ method → k ≡ number

@@ -1,16 +1,15 @@
 -- Block after block.
-use borrow.Author.Needs.{needs}
 use mathlib.Core.Path.{_≡_, refl, sym, _∙_}
 use mathlib.Core.Logic.{inl}
 use Prim.Native.Nat.{_+_, _-_}
 use native.Mathlib.Omega.{arith}
 use lib.ListN.{length, length-append, length-take, length-drop}
-use Rattle.double.specs.Left.{constantsOf}
 use Rattle.loops.specs.Tallies.{totalsOf}
 use Rattle.loops.specs.Methods.{Filling, settledWith, nextWith}
 use Rattle.loops.proofs.Tallies.{few-wider}
 use Rattle.array_planes.specs.Places.{fetched}
-use Rattle.plane_blocks.proofs.Trimming.{Trimming, front-length, one-with, begin, block-room, few-block, turn, end, filling-block}
+use Rattle.array_planes.proofs.Places.{front-long}
+use Rattle.plane_blocks.proofs.Trimming.{Trimming, one-with, begin, block-room, few-block, turn, end, filling-block}
 use Rattle.plane_blocks.proofs.double_blocks.Statement.{statement}
 use Rattle.plane_blocks.proofs.double_blocks.Tie as tie
 
@@ -40,13 +39,13 @@ double-blocks-spec =
     let at = c .before .before .before .before .loop in
     let s = c .before .before .before .before .before .before .before .before in
     let k = c .before .before .at-most in
-    let l = front-length (at .room) (k .result) (omega (arith, k .ensures)) in
+    let l = front-long (at .room) (k .result) (omega (arith, k .ensures)) in
     ((s .pre .0, at .inv .1 .0), omega (arith, l, k .ensures), rw l (block-room (nextWith 52 11 (s .args .job .method) (s .args .job .n) (s .args .mark)) (settledWith 52 11 (s .args .job .method) (s .args .job .n) (s .args .mark)) 8 (s .args .n) (s .args .planes .now) (s .pre .2) (one-with 52 11 (s .args .job .method) (s .args .job .n) (s .args .mark)) (at .inv .0) (k .result) (omega (arith, k .ensures)))))
     (λ c κs.
     let at = c .before .before .before .before .before .before .before .before .before .loop in
     let s = c .before .before .before .before .before .before .before .before .before .before .before .before .before in
     let k = c .before .before .before .before .before .before .before .at-most in
-    let l = front-length (at .room) (k .result) (omega (arith, k .ensures)) in
+    let l = front-long (at .room) (k .result) (omega (arith, k .ensures)) in
     few-wider _ (at .a + k .result) 0xffff_ffff_ffff_ffff (omega (arith, k .ensures)) (few-block (nextWith 52 11 (s .args .job .method) (s .args .job .n) (s .args .mark)) (settledWith 52 11 (s .args .job .method) (s .args .job .n) (s .args .mark)) 8 (s .args .n) (s .args .planes .now) (s .pre .2) (one-with 52 11 (s .args .job .method) (s .args .job .n) (s .args .mark)) (at .inv .0) (k .result) (omega (arith, k .ensures)) (rw l at (c .before .before .before .before .double-block .ensures .0))))
     (λ c. omega (arith, c .before .before .before .before .before .before .before .before .at-most .ensures))
     (λ c. omega (arith, c .before .before .before .before .before .before .before .before .at-most .ensures, c .before .before .before .before .before .before .before .before .before .before .loop .inv .1 .1, c .before .before .before .before .before .before .before .before .before .before .before .before .before .before .pre .1))
@@ -55,7 +54,7 @@ double-blocks-spec =
     let s = c .before .before .before .before .before .before .before .before .before .before .before .before .before .before in
     let k = c .before .before .before .before .before .before .before .before .at-most in
     let r = c .before .before .before .before .before .double-block in
-    let l = front-length (at .room) (k .result) (omega (arith, k .ensures)) in
+    let l = front-long (at .room) (k .result) (omega (arith, k .ensures)) in
     let e = rw l at (r .ensures) in (
       turn (nextWith 52 11 (s .args .job .method) (s .args .job .n) (s .args .mark)) (settledWith 52 11 (s .args .job .method) (s .args .job .n) (s .args .mark)) 8 (s .args .n) (s .args .planes .now) (s .pre .2) (one-with 52 11 (s .args .job .method) (s .args .job .n) (s .args .mark)) (at .inv .0) (k .result) (omega (arith, k .ensures)) (e .0) (c .join-totals .ensures) (e .1 .0) (e .1 .1),
       (filling-block 52 11 (s .args .job .method) (s .args .job .n) (s .args .mark) (fetched 8 (s .args .n) (at .a) (k .result) (at .planes)) (s .pre .0) (at .inv .1 .0) (e .1 .0), simp (length-append, length-take, length-drop) (omega (arith, at .inv .1 .1, k .ensures))),

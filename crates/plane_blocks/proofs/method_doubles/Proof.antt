@@ -3,7 +3,8 @@ use borrow.Author.Needs.{needs}
 use Prim.Native.Nat.{ℕ}
 use native.Mathlib.Omega.{arith}
 use lib.ListN.{replicate, length-replicate}
-use Rattle.plane_blocks.proofs.Trimming.{front-length, by-method}
+use Rattle.array_planes.proofs.Places.{front-long}
+use Rattle.plane_blocks.proofs.Trimming.{by-method}
 use Rattle.plane_blocks.proofs.method_doubles.Statement.{statement}
 use Rattle.plane_blocks.proofs.method_doubles.Tie as tie
 
@@ -17,7 +18,7 @@ method-doubles-spec =
     (λ c. omega (arith, length-replicate {A = ℕ} 512 0))
     (λ c κs.
     let j = c .before .before .before .job-double in
-    (j .ensures .1 .1, omega (arith, front-length (replicate 512 0) 512 (omega (arith, length-replicate {A = ℕ} 512 0))), c .before .before .before .before .before .pre .1))
+    (j .ensures .1 .1, omega (arith, front-long (replicate 512 0) 512 (omega (arith, length-replicate {A = ℕ} 512 0))), c .before .before .before .before .before .pre .1))
     (λ c. search needs)
     (λ c.
     let s = c .before .before .before .before .before .before .before .before .before .args in
@@ -28,7 +29,7 @@ method-doubles-spec =
     (λ c. omega (arith, length-replicate {A = ℕ} 8192 0))
     (λ c κs.
     let j = c .before .before .before .before .job-double in
-    (j .ensures .1 .1, omega (arith, front-length (replicate 8192 0) 8192 (omega (arith, length-replicate {A = ℕ} 8192 0))), c .before .before .before .before .before .before .pre .1))
+    (j .ensures .1 .1, omega (arith, front-long (replicate 8192 0) 8192 (omega (arith, length-replicate {A = ℕ} 8192 0))), c .before .before .before .before .before .before .pre .1))
     (λ c. search needs)
     (λ c.
     let s = c .before .before .before .before .before .before .before .before .before .before .args in
@@ -39,7 +40,7 @@ method-doubles-spec =
     (λ c. omega (arith, length-replicate {A = ℕ} 2048 0))
     (λ c κs.
     let j = c .before .before .before .before .job-double in
-    (j .ensures .1 .1, omega (arith, front-length (replicate 2048 0) 2048 (omega (arith, length-replicate {A = ℕ} 2048 0))), c .before .before .before .before .before .before .pre .1))
+    (j .ensures .1 .1, omega (arith, front-long (replicate 2048 0) 2048 (omega (arith, length-replicate {A = ℕ} 2048 0))), c .before .before .before .before .before .before .pre .1))
     (λ c. search needs)
     (λ c.
     let s = c .before .before .before .before .before .before .before .before .before .before .args in

@@ -1,7 +1,5 @@
 -- By the quotient.
 use borrow.Author.Needs.{needs}
-use mathlib.Core.Path.{_∙_}
-use native.Mathlib.Omega.{arith}
 use Rattle.planes.proofs.Calls.{no-quotient, by-quotient}
 use Rattle.planes.proofs.planes_fit.Statement.{statement}
 use Rattle.planes.proofs.planes_fit.Tie as tie
