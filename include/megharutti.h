@@ -40,7 +40,8 @@
  *
  * Byte planes: the lowest bytes of all readings stand together, in the order of the readings, then all second bytes, and so on: 4 planes of n bytes
  * each for n singles, 8 for n doubles. Byte b of reading i stands at planes[b * n + i], whatever the order of the machine's bytes. Trimmed readings
- * have low bytes that are mostly alike, so a compressor does better on planes than on the array. It is what the Shuffle filter of HDF5 and netCDF does.
+ * have low bytes that are mostly alike, so a compressor mostly does better on planes than on the array. The Shuffle filter of HDF5 and netCDF does the
+ * same, chunk by chunk and with bytes as they stand in memory.
  *
  * Refusals. The first question that is answered "no" gives its number, and then no array is written.
  *   1  is the method known?
@@ -152,7 +153,8 @@ uint32_t megharutti_unpack(const uint32_t *widths, size_t n_widths, const uint16
                            size_t n);
 
 /* Writes the byte planes of n readings, or the n readings that stand in byte planes. Answers 0; or 13, and writes nothing, unless n_planes is
- * exactly 4 * n (doubles: 8 * n). One undoes the other. The two arrays may not overlap: convert to another array. */
+ * exactly 4 * n (doubles: 8 * n). One undoes the other. The two arrays may not overlap: convert to another array.
+ * No call can tell planes from an array that was not converted, nor planes of doubles from those of twice as many singles: 13 doesn't find it. */
 uint32_t megharutti_planes_of_singles(const uint32_t *readings, size_t n, uint8_t *planes, size_t n_planes);
 uint32_t megharutti_planes_of_doubles(const uint64_t *readings, size_t n, uint8_t *planes, size_t n_planes);
 uint32_t megharutti_singles_of_planes(const uint8_t *planes, size_t n_planes, uint32_t *readings, size_t n);
