@@ -1,7 +1,7 @@
-/* Megharutti: trims false precision from IEEE 754 singles and doubles, compares raw readings with trimmed ones, and packs singles into layers
- * of codes of 2 to 16 bits. Converts arrays to byte planes and back, and trims in planes.
+/* Megharutti: trims false precision from IEEE 754 singles and doubles, compares raw readings with trimmed ones, packs singles into layers
+ * of codes of 2 to 16 bits, and adds up the codes of a layer. Converts arrays to byte planes and back, and trims in planes.
  *
- * Every call below is proved to give, for every input, what document 01 of the association defines, with requests (a), (b), (c), (e) and (f) of
+ * Every call below is proved to give, for every input, what document 01 of the association defines, with requests (a), (b), (c), (e), (f) and (g) of
  * its document 02. What is proved and what is assumed of the caller stands in docs/PROOFS.md.
  *
  * Coming from version 1: the array for the counts has six elements and not four, so enlarge it, or the call writes behind it; and the answer of
@@ -46,15 +46,15 @@
  * Refusals. The first question that is answered "no" gives its number, and then no array is written.
  *   1  is the method known?
  *   2  is its setting in range? (and, where arrays are compared, p)
- *   3  is `length` 1 to 65536?
+ *   3  is `length` 1 to 65536? (of megharutti_totals: the number of codes)
  *   4  is the number of readings (or codes) a whole multiple of `length`?
  *   5  has each other array the length that follows?
  *   6  is each reading finite or the mark?
  *   7  is each reference finite, and each exponent -149 to 128?
  *   8  is the double mark a NaN?
  *  10  are the two arrays to be compared of one length?
- *  11  is each width 2 to 16? (asked after 5)
- *  12  is each code at most the missing code of its layer's width? (asked after 8)
+ *  11  is each width 2 to 16? (asked after 5; of megharutti_totals after 3)
+ *  12  is each code at most the missing code of its layer's width? (asked after 8; of megharutti_totals after 11)
  *  13  has the plane buffer exactly 4 bytes (doubles: 8) for each reading? (asked after 2, where a trim asks that)
  *
  * An array is a pointer to its first element, and how many there are. The caller sees to it that the pointer is not NULL, also where there
@@ -78,7 +78,7 @@
 #include <stdint.h>
 
 /* The version of this header, of the library and of the program trimlist. */
-#define MEGHARUTTI_VERSION "2.4.0"
+#define MEGHARUTTI_VERSION "2.5.0"
 
 #ifdef __cplusplus
 extern "C" {
@@ -151,6 +151,14 @@ uint32_t megharutti_pack(const uint32_t *readings, size_t n, size_t length, uint
 uint32_t megharutti_unpack(const uint32_t *widths, size_t n_widths, const uint16_t *codes, size_t n_codes, const float *references,
                            size_t n_references, const int32_t *exponents, size_t n_exponents, size_t length, uint64_t mark, uint64_t *readings,
                            size_t n);
+
+/* Adds up the n codes of one layer, of the given width. Answers 0 and writes two numbers to `totals`: how many codes are present, that is, aren't the
+ * missing code 2^width - 1, and the sum of those. Or answers the refusal's number, 3, 11 or 12, asked in this order, and writes nothing.
+ * With the layer's reference R and exponent E the layer's total is totals[0] * R + totals[1] * 2^E: exactly what its codes stand for, added up. Of a
+ * layer that megharutti_pack wrote, it lies within totals[0] times half a step, 2^E / 2, of the total of the present readings that were packed. To
+ * have it exact, work it out in numbers that hold it: a double may round. The width has to be the one that the layer was packed with: with another
+ * the totals are wrong, and 12 need not find it. Of layer j of a packed array the codes begin at codes + j * length, and n is length. */
+uint32_t megharutti_totals(const uint16_t *codes, size_t n, uint32_t width, uint64_t totals[2]);
 
 /* Writes the byte planes of n readings, or the n readings that stand in byte planes. Answers 0; or 13, and writes nothing, unless n_planes is
  * exactly 4 * n (doubles: 8 * n). One undoes the other. The two arrays may not overlap: convert to another array.

@@ -186,6 +186,25 @@ int main(void) {
     /* the same readings, the first layer in 2 bits and the second in 4 */
     const uint32_t narrow[2] = {2, 4};
     check("packed in few bits", megharutti_pack(raw, 6, 3, mark, narrow, 2, codes, 6, references, 2, exponents, 2), 0);
+
+    /* the totals of each layer: 1.0 and 2.0 are 0 and 2 steps of 1/2 above 1.0 */
+    uint64_t totals[3] = {7, 7, 7};
+    check("no codes", megharutti_totals(codes, 0, 1, totals), MEGHARUTTI_LENGTH_OUT_OF_RANGE);
+    check("a width of 1", megharutti_totals(codes, 3, 1, totals), MEGHARUTTI_WIDTH_OUT_OF_RANGE);
+    check("a width of 17, before the codes", megharutti_totals((const uint16_t[1]){65535}, 1, 17, totals), MEGHARUTTI_WIDTH_OUT_OF_RANGE);
+    check("a code above the missing one", megharutti_totals((const uint16_t[2]){3, 4}, 2, 2, totals), MEGHARUTTI_CODE_OUT_OF_RANGE);
+    check("totals after refusals", totals[0] + totals[1], 14);
+    check("totals", megharutti_totals(codes, 3, narrow[0], totals), 0);
+    check("present codes", totals[0], 2);
+    check("their sum", totals[1], 2);
+    check("behind the totals", totals[2], 7);
+    check("totals of the second layer", megharutti_totals(codes + 3, 3, narrow[1], totals), 0);
+    check("present codes of the second layer", totals[0], 2);
+    check("a layer of which nothing is present", megharutti_totals((const uint16_t[5]){31, 31, 31, 31, 31}, 5, 5, totals), 0);
+    check("none present", totals[0] + totals[1], 0);
+    check("nine codes of 16 bits", megharutti_totals((const uint16_t[9]){1, 2, 4, 8, 16, 32, 64, 65535, 65534}, 9, 16, totals), 0);
+    check("eight present", totals[0], 8);
+    check("the sum of eight", totals[1], 127 + 65534);
     check("code of the reference, of 2 bits", codes[0], 0);
     check("missing code of 2 bits", codes[1], MEGHARUTTI_MISSING_CODE(2));
     check("code of 2.0, of 2 bits", codes[2], 2);

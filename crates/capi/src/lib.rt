@@ -5,13 +5,15 @@ ghost use mathlib.Core.List.{map};
 ghost use lib.Ieee.{binary32, toBits};
 ghost use Rattle.meaning.specs.Calls.{trimSingles, trimDoubles, loader, unpack};
 ghost use Rattle.meaning.specs.Comparing.{firstBeyondSingles, firstBeyondDoubles};
+ghost use Rattle.meaning.specs.Totals.{totals};
 ghost use Rattle.meaning.specs.Planes.{toPlanes, fromPlanes, trimPlanesSingles, trimPlanesDoubles};
 ghost use Rattle.trim.specs.Answers.{answerOf};
 ghost use Rattle.beyond.specs.Answers as beyond;
 ghost use Rattle.packing.specs.Answers as packing;
 ghost use Rattle.unpacking.specs.Answers as unpacking;
 ghost use Rattle.planes.specs.Answers as planes;
-ghost use Rattle.capi.specs.ForC.{numberForC, countsForC, foundForC};
+ghost use Rattle.totals.specs.Answers as totalled;
+ghost use Rattle.capi.specs.ForC.{numberForC, countsForC, foundForC, totalsForC};
 
 // An answer in C's form.
 fn hand_over(answer: trim::Answer, counts: &mut [u64; 6]) -> u32
@@ -188,6 +190,30 @@ pub extern "C" fn megharutti_unpack(
 {
     let answer = unpacking::unpack(widths, codes, references, exponents, length, mark, readings);
     unpacked_number(answer)
+}
+
+// A layer's totals in C's form.
+fn hand_totals(answer: totals::Total, out: &mut [u64; 2]) -> u32
+    ensures number { λ r. ⌜ r ≡ numberForC (totalled.answerOf answer) ⌝ }
+    ensures totals { λ _. ⌜ now (out .exit) ≡ totalsForC (totalled.answerOf answer) (now (out .entry)) ⌝ }
+{
+    match answer {
+        totals::Total::Present { count, sum } => {
+            *out = [count as u64, sum as u64];
+            0
+        }
+        totals::Total::Refused(n) => n,
+    }
+}
+
+// Totals of one layer's codes. `out` gets the number of the present codes and their sum.
+#[no_mangle]
+pub extern "C" fn megharutti_totals(codes: &[u16], width: u32, out: &mut [u64; 2]) -> u32
+    ensures answer { λ r. ⌜ r ≡ numberForC (totals width (now (codes .entry))) ⌝ }
+    ensures totals { λ _. ⌜ now (out .exit) ≡ totalsForC (totals width (now (codes .entry))) (now (out .entry)) ⌝ }
+{
+    let answer = totals::totals(codes, width);
+    hand_totals(answer, out)
 }
 
 fn converted_number(answer: planes::Converted) -> u32

@@ -44,7 +44,7 @@ fn fits_trim(row: &[u8]) -> bool {
     }
 }
 
-// The kinds of `layers.rt`, `limits.rt`, `grouped.rt` and `texts.rt`, and then the others.
+// The kinds of `layers.rt`, `limits.rt`, `grouped.rt`, `sums.rt` and `texts.rt`, and then the others.
 fn fits_any(row: &[u8]) -> bool {
     match initial(row, 0) {
         b'r' => fits(
@@ -82,6 +82,10 @@ fn fits_any(row: &[u8]) -> bool {
         b'h' => fits(
             row,
             b"held|source:any|method:method|setting:integer|readings:quantity|more bytes:quantity|told:hexadecimal|refusal:refusal",
+        ),
+        b'n' => fits(
+            row,
+            b"number|source:any|width:width|codes:code?*3|present:quantity?|sum:length?|refusal:refusal",
         ),
         b'f' => fits(row, b"file|source:any|text:text|what must come:text"),
         _ => fits_trim(row),

@@ -7,6 +7,7 @@ mod kinds;
 mod layers;
 mod limits;
 mod rows;
+mod sums;
 mod texts;
 mod trims;
 

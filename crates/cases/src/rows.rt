@@ -9,6 +9,7 @@ use crate::layers::layers;
 use crate::layers::unpacked;
 use crate::limits::exceeds;
 use crate::limits::outside;
+use crate::sums::number;
 use crate::texts::file;
 use crate::trims::array;
 use crate::trims::asked;
@@ -45,6 +46,7 @@ fn right(row: &[u8]) -> bool {
         b'o' => outside(row),
         b'g' => grouped(row),
         b'h' => held(row),
+        b'n' => number(row),
         b'f' => file(row),
         _ => false,
     }

@@ -7,7 +7,7 @@ use native.Mathlib.Nat.{not-suc-le-zero, le-of-suc-le-suc, zero-mul, suc-mul}
 use native.Mathlib.Numerals.{add-one}
 use native.Mathlib.Omega.{arith}
 use lib.ListN.{length, getD, take, drop, length-drop, length-append, List·getD-append, drop-of-length-le}
-use lib.Seq.{length-take-le, getD-append-add, drop-drop, drop-cons, take-all}
+use lib.Seq.{getD-take, getD-drop, length-take-le, getD-append-add, drop-drop, drop-cons, take-all}
 use Rattle.meaning.specs.Layers.{runs}
 
 pub map-at : {A B : Type 0} (f : A → B) (d : A) (z : B) (l : List A) (i : ℕ) → i < length l → getD (map f l) i z ≡ f (getD l i d)
@@ -16,6 +16,13 @@ map-at f d z (x ∷ l) zero h = refl
 map-at f d z (x ∷ l) (suc i) h = map-at f d z l i (le-of-suc-le-suc h)
 
 module _ (L : ℕ) where
+  -- layer j of an array, which has room for it
+  pub part-long : (j : ℕ) (xs : List ℕ) → j * L + L ≤ length xs → length (take L (drop (j * L) xs)) ≡ L
+  part-long j xs h = length-take-le L (drop (j * L) xs) (simp length-drop (omega arith))
+
+  pub part-at : (j : ℕ) (xs : List ℕ) (i : ℕ) → i < L → getD (take L (drop (j * L) xs)) i 0 ≡ getD xs (j * L + i) 0
+  part-at j xs i h = getD-take L (drop (j * L) xs) i 0 h ∙ getD-drop (j * L) xs i 0
+
   -- a turn over n runs, i of which are done, up to a: there is room for one more, and what is left after it
   pub run-left : (a i n N : ℕ) → i < n → a + (n - i) * L ≡ N → (a + L + (n - (i + 1)) * L ≡ N) × (a + L ≤ N)
   run-left a i n N h e =
@@ -25,7 +32,7 @@ module _ (L : ℕ) where
       (omega arith, omega arith)
 
   -- layer j + 1 is layer j of what follows the first
-  next : (j : ℕ) (ws : List ℕ) → take L (drop (j * L) (drop L ws)) ≡ take L (drop (suc j * L) ws)
+  pub next : (j : ℕ) (ws : List ℕ) → take L (drop (j * L) (drop L ws)) ≡ take L (drop (suc j * L) ws)
   next j ws = ap (take L) (drop-drop (j * L) L ws ∙ ap (λ (k : ℕ). drop k ws) (let e : L + j * L ≡ suc j * L = omega arith in e))
 
   module _ {A : Type 0} (d : A) where

@@ -7,6 +7,7 @@ pub mod CasesMoves
 pub mod CasesPlanes
 pub mod CasesRefusals
 pub mod CasesRows
+pub mod CasesTotals
 pub mod CasesTurns
 pub mod CasesWidths
 pub mod Powers
@@ -23,14 +24,18 @@ pub mod OneReading
 pub mod Moves
 pub mod Turns
 pub mod Packing
+pub mod References
 pub mod Laws
 pub mod Bracket
 pub mod Lists
 pub mod Claim
 pub mod Comparing
 pub mod Exponents
+pub mod Differences
 pub mod Layering
+pub mod Elements
 pub mod Packed
 pub mod Loader
 pub mod OldForm
 pub mod Planes
+pub mod Totals

@@ -4,17 +4,16 @@ use mathlib.Core.Path.{_≡_, refl, sym, ap, _∙_, subst}
 use mathlib.Core.Logic.{_≢_}
 use mathlib.Core.Bool.{Bool, true, false, true≢false, _&&_, _||_}
 use mathlib.Core.List.{List, [], _∷_, map, zipWith}
-use Prim.Native.Nat.{ℕ, zero, suc, _+_, _-_, _*_, _/_, _%_, _^_, _≤_, _<_}
-use native.Mathlib.Nat.{div-add-mod', mod-lt, div-lt-iff-lt-mul, le-refl, mul-le-mul-right, mul-le-mul-left, not-suc-le-zero, le-of-suc-le-suc, lt-of-lt-of-le}
+use Prim.Native.Nat.{ℕ, _+_, _-_, _*_, _/_, _%_, _^_, _≤_, _<_}
+use native.Mathlib.Nat.{div-add-mod', mod-lt, div-lt-iff-lt-mul, le-refl, mul-le-mul-right, mul-le-mul-left, lt-of-lt-of-le}
 use native.Mathlib.Decide.{decLt, ℕ-discrete}
 use native.Mathlib.Omega.{arith}
 use borrow.Author.Tests.{leb-true, eqb-true, ne-eqb}
 use lib.Dec.{leb, eqb}
 use lib.IntN.{ℤ, pos, negℤ, subℕ}
 use lib.Signed.{leZ, ltZ}
-use lib.ListN.{length, getD, take, drop, length-map, length-drop}
+use lib.ListN.{length, getD, take, drop, length-map}
 use lib.Pow.{pow-mono}
-use lib.Seq.{getD-take, getD-drop, length-take-le}
 use Rattle.meaning.specs.Readings.{spacing, size, sign, magnitude, infinity, finite, magnitudeOf, origin, position, distance, missing}
 use Rattle.meaning.specs.Methods.{Method, tail, round, absolute, digits, unit, trimmable}
 use Rattle.meaning.specs.Layers.{Layer, missingCode, holds, span, summary, runs, layers, layerOf, code, codeMeaning, packedLayers, packedCodes}
@@ -24,9 +23,10 @@ use Rattle.meaning.specs.Claim.{oneKind, Kept, Coded, LeastHolding, laye
 use Rattle.meaning.proofs.Sizes.{spacing-mono}
 use Rattle.meaning.proofs.Patterns.{finite-below, size-below, position-plus, position-minus, magnitudeOf-size, magnitudeOf-mono}
 use Rattle.meaning.proofs.Accepted.{and-first, and-second}
-use Rattle.meaning.proofs.OneReading.{is-trimmable}
+use Rattle.meaning.proofs.OneReading.{is-trimmable, trimmable-below}
 use Rattle.meaning.proofs.Packing.{Packable, CodedIn, layer-holds, layer-least, layer-codes, singles-held, codes-apart}
-use Rattle.meaning.proofs.Layering.{map-at, zip-at, zip-length, flat-at, flat-length}
+use Rattle.meaning.proofs.Elements.{all-at}
+use Rattle.meaning.proofs.Layering.{part-long, part-at, map-at, zip-at, zip-length, flat-at, flat-length}
 use Rattle.meaning.proofs.Exponents.{count-back, exponent-back, exponent-range, exponent-order}
 use Rattle.meaning.proofs.Claim.{list-claim}
 
@@ -36,12 +36,6 @@ ask-yes : {A : Type 0} (b : Bool) (n : ℕ) (rest : Outcome A) (a : A) → ask b
 unfolding ask
 ask-yes true n rest a e = (refl, e)
 ask-yes false n rest a e = let z : _≡_ {A = ℕ} 0 1 = cc in absurd (omega arith)
-
-pub all-at : (f : ℕ → Bool) (ws : List ℕ) → all f ws ≡ true → (i : ℕ) → i < length ws → f (getD ws i 0) ≡ true
-unfolding all
-all-at f [] e i h = absurd (not-suc-le-zero h)
-all-at f (w ∷ ws) e zero h = and-first (f w) (all f ws) e
-all-at f (w ∷ ws) e (suc i) h = all-at f ws (and-second (f w) (all f ws) e) i (le-of-suc-le-suc h)
 
 or-first : (a b : Bool) → a || b ≡ true → b ≡ false → a ≡ true
 or-first true b e f = refl
@@ -74,7 +68,7 @@ asked mark L widths vs c r e h =
       widths-known = q11 .0;
       packable = λ i l p.
           finite-below 23 8 (getD vs i 0)
-          (or-first (finite 23 8 (getD vs i 0)) (eqb (getD vs i 0) mark) (all-at (λ w. finite 23 8 w || eqb w mark) vs (q6 .0) i l) (ne-eqb (getD vs i 0) mark p));
+          (or-first (finite 23 8 (getD vs i 0)) (eqb (getD vs i 0) mark) (all-at (λ w. finite 23 8 w || eqb w mark) 0 vs (q6 .0) i l) (ne-eqb (getD vs i 0) mark p));
     }
 
 -- ---- the layer of a place, as it was packed and as it is stored
@@ -116,6 +110,25 @@ module _ (mark L : ℕ) (widths vs codes references : List ℕ) (exponents : Lis
   pub in-layers : length vs / L * L ≡ length vs
   in-layers = omega (arith, div-add-mod' (length vs) L, all-asked .whole)
 
+  pub codes-long : length (left .codes) ≡ length vs
+  unfolding packedCodes layers
+  codes-long =
+      ap length codes-are
+      ∙ flat-length L 0 (λ w layer. map (code 23 8 mark (layerOf 23 8 277 mark w layer)) layer) (λ w l. length-map l (code 23 8 mark (layerOf 23 8 277 mark w l)))
+      (length vs / L) widths vs (all-asked .one-width) (omega (arith, in-layers))
+      ∙ in-layers
+
+  -- as many references and exponents as layers
+  one-each : {A : Type 0} (f : Layer → A) → length (map f (packedLayers 23 8 277 mark L widths vs)) ≡ length vs / L
+  unfolding packedLayers layers
+  one-each f = length-map (zipWith (layerOf 23 8 277 mark) widths (runs L (length vs / L) vs)) f ∙ zip-length L 0 (layerOf 23 8 277 mark) (length vs / L) widths vs (all-asked .one-width)
+
+  pub references-long : length (left .references) ≡ length vs / L
+  references-long = ap length references-are ∙ one-each (λ l. l .reference)
+
+  pub exponents-long : length (left .exponents) ≡ length vs / L
+  exponents-long = ap length exponents-are ∙ one-each storedExponent
+
   module _ (j : ℕ) (h : j < length vs / L) where
     -- one thing for each layer, found at its place
     layer-at : {A : Type 0} (f : Layer → A) (z : A) → getD (map f (packedLayers 23 8 277 mark L widths vs)) j z ≡ f (packed j)
@@ -133,27 +146,25 @@ module _ (mark L : ℕ) (widths vs codes references : List ℕ) (exponents : Lis
     stored-at =
         rw (references-are, exponents-are, layer-at (λ l. l .reference) 0, layer-at storedExponent (pos 0)) (stored-layer (packed j))
 
+    pub width-known : widthInRange (getD widths j 0) ≡ true
+    width-known = all-at widthInRange 0 widths (all-asked .widths-known) j (rw (all-asked .one-width) h)
+
     -- its width is at least 2
     width-low : 2 ≤ width j
-    width-low =
-        leb-true 2 (width j)
-        (and-first (leb 2 (width j)) (leb (width j) 16) (all-at widthInRange widths (all-asked .widths-known) j (rw (all-asked .one-width) h)))
+    width-low = leb-true 2 (width j) (and-first (leb 2 (width j)) (leb (width j) 16) width-known)
 
     pub room : j * L + L ≤ length vs
     room = omega (arith, in-layers, mul-le-mul-right L h)
 
     part-length : length (part j) ≡ L
-    part-length = length-take-le L (drop (j * L) vs) (simp length-drop (omega (arith, room)))
-
-    part-at : (i : ℕ) → i < L → getD (part j) i 0 ≡ getD vs (j * L + i) 0
-    part-at i k = getD-take L (drop (j * L) vs) i 0 k ∙ getD-drop (j * L) vs i 0
+    part-length = part-long L j vs room
 
     pub part-packable : Packable 23 8 mark (take L (drop (j * L) vs))
     part-packable i k p =
         let l : i < L = omega (arith, part-length) in
-        rw (part-at i l) (all-asked .packable (j * L + i) (omega (arith, room)) (λ e. p (part-at i l ∙ e)))
+        rw (part-at L j vs i l) (all-asked .packable (j * L + i) (omega (arith, room)) (λ e. p (part-at L j vs i l ∙ e)))
 
-    width-packed : 2 ≤ packed j .width
+    pub width-packed : 2 ≤ packed j .width
     unfolding layerOf
     width-packed = width-low
 
@@ -172,7 +183,7 @@ module _ (mark L : ℕ) (widths vs codes references : List ℕ) (exponents : Lis
     pub coded-at : (i : ℕ) → i < L
         → CodedIn 23 8 mark (layerOf 23 8 277 mark (getD widths j 0) (take L (drop (j * L) vs))) (getD vs (j * L + i) 0) (getD (left .codes) (j * L + i) 0)
     coded-at i k =
-        rw (code-at i k, ← part-at i k) (layer-codes 23 8 277 mark (width j) (part j) part-held i (omega (arith, part-length)))
+        rw (code-at i k, ← part-at L j vs i k) (layer-codes 23 8 277 mark (width j) (part j) part-held i (omega (arith, part-length)))
 
     exponent-at : getD (left .exponents) j (pos 0) ≡ storedExponent (packed j)
     exponent-at = rw (exponents-are) (layer-at storedExponent (pos 0))
@@ -274,60 +285,66 @@ module _ (mark : ℕ) (xs : List Method) (l : Layer) (w v c : ℕ) (k : Kept 23 
 
 -- ---- the whole
 
-module _ (cs : List Call) (mark : ℕ) (ws : List ℕ) (some : 0 < length (acceptedCalls 23 8 cs)) (kind : oneKind (acceptedCalls 23 8 cs) ≡ true) (L : ℕ) (widths codes references : List ℕ) (exponents : List ℤ) where
+module _ (cs : List Call) (mark : ℕ) (ws : List ℕ) (some : 0 < length (acceptedCalls 23 8 cs)) (kind : oneKind (acceptedCalls 23 8 cs) ≡ true) (L : ℕ) (widths codes references : List ℕ) (exponents : List ℤ)
+    (yes-answer : pack mark L widths (inTurn 23 8 cs mark ws) codes references exponents .answer ≡ accepted tt) where
   abbrev vs : List ℕ
   vs = inTurn 23 8 cs mark ws
 
-  pub pack-claim : pack mark L widths (inTurn 23 8 cs mark ws) codes references exponents .answer ≡ accepted tt
-      → PackClaim cs mark ws L widths (pack mark L widths (inTurn 23 8 cs mark ws) codes references exponents)
-  unfolding packedCodes packedLayers layers
-  pack-claim yes-answer =
+  abbrev p : AfterPack
+  p = pack mark L widths vs codes references exponents
+
+  pub same-length : length (inTurn 23 8 cs mark ws) ≡ length ws
+  same-length = list-claim 23 8 cs mark ws .as-long
+
+  same-layers : length vs / L ≡ length ws / L
+  same-layers = ap (λ (x : ℕ). x / L) same-length
+
+  a : Asked mark L widths vs
+  a = all-asked mark L widths vs codes references exponents yes-answer
+
+  full : length vs / L * L ≡ length vs
+  full = in-layers mark L widths vs codes references exponents yes-answer
+
+  -- place i of layer j
+  module _ (j i : ℕ) (h : j < length vs / L) (k : i < L) where
+    place : j * L + i < length vs
+    place = omega (arith, room mark L widths vs codes references exponents yes-answer j h)
+
+    kept-at : Kept 23 8 mark (acceptedCalls 23 8 cs) (getD ws (j * L + i) 0) (getD vs (j * L + i) 0)
+    kept-at = list-claim 23 8 cs mark ws .each-place some kind (j * L + i) (omega (arith, same-length, place))
+
+    pub coded-sent : Coded mark (acceptedCalls 23 8 cs) (getD ws (j * L + i) 0) (layerAt widths (p .references) (p .exponents) j) (getD (p .codes) (j * L + i) 0)
+    coded-sent =
+        rw (stored-at mark L widths vs codes references exponents yes-answer j h)
+        (coded mark (acceptedCalls 23 8 cs) (packed mark L widths vs codes references exponents yes-answer j) (getD ws (j * L + i) 0) (getD vs (j * L + i) 0) (getD (p .codes) (j * L + i) 0)
+        kept-at (width-packed mark L widths vs codes references exponents yes-answer j h)
+        (coded-at mark L widths vs codes references exponents yes-answer j h i k) (a .packable (j * L + i) place))
+
+    -- a reading that is packed was finite before it was trimmed
+    pub sent-below : getD ws (j * L + i) 0 ≢ mark → magnitude 23 8 (getD ws (j * L + i) 0) < infinity 23 8
+    sent-below n =
+        trimmable-below 23 8 mark (getD ws (j * L + i) 0)
+        (trimmed-one mark (acceptedCalls 23 8 cs) (packed mark L widths vs codes references exponents yes-answer j) (getD ws (j * L + i) 0) (getD vs (j * L + i) 0) (getD (p .codes) (j * L + i) 0)
+        kept-at (width-packed mark L widths vs codes references exponents yes-answer j h)
+        (coded-at mark L widths vs codes references exponents yes-answer j h i k) (a .packable (j * L + i) place) n)
+
+  pub pack-claim : PackClaim cs mark ws L widths (pack mark L widths (inTurn 23 8 cs mark ws) codes references exponents)
+  pack-claim =
       record {
-        widths-long = a .one-width ∙ ap (λ (x : ℕ). x / L) same;
-        codes-long =
-            ap length (codes-are mark L widths vs codes references exponents yes-answer)
-            ∙ flat-length L 0 (λ w layer. map (code 23 8 mark (layerOf 23 8 277 mark w layer)) layer) (λ w l. length-map l (code 23 8 mark (layerOf 23 8 277 mark w l)))
-            (length vs / L) widths vs (a .one-width) (omega (arith, full))
-            ∙ full ∙ same;
-        references-long = ap length (references-are mark L widths vs codes references exponents yes-answer) ∙ count (λ l. l .reference);
-        exponents-long = ap length (exponents-are mark L widths vs codes references exponents yes-answer) ∙ count storedExponent;
+        widths-long = a .one-width ∙ same-layers;
+        codes-long = codes-long mark L widths vs codes references exponents yes-answer ∙ same-length;
+        references-long = references-long mark L widths vs codes references exponents yes-answer ∙ same-layers;
+        exponents-long = exponents-long mark L widths vs codes references exponents yes-answer ∙ same-layers;
         each-code = λ i h. at i h;
-        each-layer = λ j h. least-at mark L widths vs codes references exponents yes-answer j (rw (← same) at h);
+        each-layer = λ j h. least-at mark L widths vs codes references exponents yes-answer j (rw (← same-length) at h);
       }
     where
-      same : length vs ≡ length ws
-      same = list-claim 23 8 cs mark ws .as-long
-
-      a : Asked mark L widths vs
-      a = all-asked mark L widths vs codes references exponents yes-answer
-
-      full : length vs / L * L ≡ length vs
-      full = in-layers mark L widths vs codes references exponents yes-answer
-
-      count : {A : Type 0} (f : Layer → A) → length (map f (zipWith (layerOf 23 8 277 mark) widths (runs L (length vs / L) vs))) ≡ length ws / L
-      count f =
-          length-map (zipWith (layerOf 23 8 277 mark) widths (runs L (length vs / L) vs)) f
-          ∙ zip-length L 0 (layerOf 23 8 277 mark) (length vs / L) widths vs (a .one-width) ∙ ap (λ (x : ℕ). x / L) same
-
-      p : AfterPack
-      p = pack mark L widths vs codes references exponents
-
-      -- place i of layer j
-      in-layer : (j i : ℕ) → j < length vs / L → i < L
-          → Coded mark (acceptedCalls 23 8 cs) (getD ws (j * L + i) 0) (layerAt widths (p .references) (p .exponents) j) (getD (p .codes) (j * L + i) 0)
-      in-layer j i h k =
-          let b : j * L + i < length vs = omega (arith, room mark L widths vs codes references exponents yes-answer j h) in
-          rw (stored-at mark L widths vs codes references exponents yes-answer j h)
-          (coded mark (acceptedCalls 23 8 cs) (packed mark L widths vs codes references exponents yes-answer j) (getD ws (j * L + i) 0) (getD vs (j * L + i) 0) (getD (p .codes) (j * L + i) 0)
-          (list-claim 23 8 cs mark ws .each-place some kind (j * L + i) (omega (arith, same))) (width-packed mark L widths vs codes references exponents yes-answer j h)
-          (coded-at mark L widths vs codes references exponents yes-answer j h i k) (a .packable (j * L + i) b))
-
       at : (i : ℕ) → i < length ws
           → Coded mark (acceptedCalls 23 8 cs) (getD ws i 0) (layerAt widths (p .references) (p .exponents) (i / L)) (getD (p .codes) i 0)
       at i h =
           subst (λ (x : ℕ). Coded mark (acceptedCalls 23 8 cs) (getD ws x 0) (layerAt widths (p .references) (p .exponents) (i / L)) (getD (p .codes) x 0))
           (div-add-mod' i L)
-          (in-layer (i / L) (i % L) (div-lt-iff-lt-mul {k = L} {x = i} {y = length vs / L} (a .some) .1 (omega (arith, full, same))) (mod-lt i (a .some)))
+          (coded-sent (i / L) (i % L) (div-lt-iff-lt-mul {k = L} {x = i} {y = length vs / L} (a .some) .1 (omega (arith, full, same-length))) (mod-lt i (a .some)))
 
 pub demand-3 : Demand3
 demand-3 = record { singles = list-claim 23 8; doubles = list-claim 52 11; packing = pack-claim }

@@ -8,3 +8,4 @@ pub mod Claim
 pub mod Comparing
 pub mod OldForm
 pub mod Planes
+pub mod Totals

@@ -14,7 +14,8 @@ use Rattle.meaning.specs.Questions as meaning
 use Rattle.meaning.specs.Questions.{Outcome, refused, accepted, ask, all, widthInRange, packQuestions}
 use Rattle.meaning.specs.Calls.{AfterPack, leaving, pack}
 use Rattle.meaning.proofs.Accepted.{and-first, and-second}
-use Rattle.meaning.proofs.Packed.{all-at, asked}
+use Rattle.meaning.proofs.Elements.{all-at}
+use Rattle.meaning.proofs.Packed.{asked}
 use Rattle.asking_layers.specs.LayerAsked.{layerRefusal}
 use Rattle.asking_layers.proofs.Layers.{lengths, layers-asked}
 use Rattle.summary.specs.Summaries.{Packable}
@@ -75,7 +76,7 @@ module _ (mark L : ℕ) (bs ws cs : List ℕ) (rs : List Float) (es : List ℤ) 
         one-exponent = l .one-exponent;
         in-range = λ i k.
             let w = getD bs i 0 in
-            let t = all-at widthInRange bs (l .widths-known) i k in
+            let t = all-at widthInRange 0 bs (l .widths-known) i k in
             record { low = leb-true 2 w (and-first (leb 2 w) (leb w 16) t); high = leb-true w 16 (and-second (leb 2 w) (leb w 16) t) };
       }
 

@@ -13,7 +13,6 @@ pub mod LayerBounds
 pub mod Distances
 pub mod NearestMagnitude
 pub mod Gaps
-pub mod References
 pub mod Doubles
 pub mod Unpacked
 pub mod Sent

@@ -2,9 +2,9 @@
 use mathlib.Core.Path.{_≡_, refl, sym, ap, _∙_, subst}
 use mathlib.Core.Logic.{_⊎_, inl, inr, _≢_}
 use mathlib.Core.Bool.{Bool, true}
-use mathlib.Core.List.{List, [], _∷_, map, zipWith, flatten}
-use Prim.Native.Nat.{ℕ, zero, suc, _+_, _*_, _/_, _%_, _^_, _≤_, _<_, suc-le-suc}
-use native.Mathlib.Nat.{div-add-mod', div-lt-iff-lt-mul, mod-lt, le-of-suc-le-suc, le-div-iff-mul-le, mul-le-mul-right, not-suc-le-zero, pow-suc}
+use mathlib.Core.List.{List, map, zipWith, flatten}
+use Prim.Native.Nat.{ℕ, suc, _+_, _*_, _/_, _%_, _^_, _≤_, _<_}
+use native.Mathlib.Nat.{div-add-mod', div-lt-iff-lt-mul, mod-lt, le-div-iff-mul-le, mul-le-mul-right, pow-suc}
 use native.Mathlib.Decide.{ℕ-discrete}
 use native.Mathlib.Omega.{arith}
 use borrow.Author.Tests.{le-leb, leb-true, eq-eqb, ltb-true}
@@ -20,59 +20,21 @@ use Rattle.meaning.specs.Questions.{accepted, ask, all, isNan, widthInRange, ex
 use Rattle.meaning.specs.Calls.{Call, AfterPack, AfterUnpack, leaving, inTurn, acceptedCalls, largestUnit, pack, unpack, storedLayer, storedLayers}
 use Rattle.meaning.specs.Claim.{oneKind, Kept, layerAt, PackClaim}
 use Rattle.meaning.proofs.Accepted.{and-first, and-second}
-use Rattle.meaning.proofs.Patterns.{finite-below, below-finite, size-below, position-plus, position-minus, magnitudeOf-size, magnitudeOf-mono}
+use Rattle.meaning.proofs.Patterns.{finite-below, size-below, position-plus, position-minus, magnitudeOf-size, magnitudeOf-mono}
 use Rattle.meaning.proofs.Packing.{Packable, CodedIn, layer-least, singles-held, codes-apart}
+use Rattle.meaning.proofs.References.{reference-finite}
+use Rattle.meaning.proofs.Elements.{all-at, all-pass, layers-long, layers-at}
 use Rattle.meaning.proofs.Layering.{map-at, zip-at, zip-length, flat-at, flat-length}
 use Rattle.meaning.proofs.Claim.{list-claim}
-use Rattle.meaning.proofs.Packed.{all-at, Asked, all-asked, in-layers, stored-at, room, part-packable, coded-at, trimmed-one, still-here, largest-mono, demand-3}
+use Rattle.meaning.proofs.Packed.{Asked, all-asked, in-layers, stored-at, room, part-packable, coded-at, trimmed-one, still-here, largest-mono, demand-3}
 use Rattle.papers.specs.LayerBounds.{layer}
 use Rattle.papers.specs.Unpacked.{SentDouble, UnpackClaim, SentUnpacked, CodeOf, double, apart}
-use Rattle.papers.proofs.References.{reference-finite}
 use Rattle.papers.proofs.Doubles.{code-small, double-finite}
 use Rattle.papers.proofs.Unpacked.{is-unpacked, half-kept, sent-by, unpacked}
-
-all-pass : {A : Type 0} (f : A → Bool) (d : A) (xs : List A) → ((i : ℕ) → i < length xs → f (getD xs i d) ≡ true) → all f xs ≡ true
-unfolding all
-all-pass f d [] h = refl
-all-pass f d (x ∷ xs) h = rw (h 0 (omega arith), all-pass f d xs (λ i k. h (suc i) (suc-le-suc k))) refl
 
 -- question 12 of a layer's codes
 abbrev inRange : ℕ → List ℕ → Bool
 inRange w own = all (codeInRange w) own
-
--- ---- two lists of one length, element by element
-
-module _ {A B C : Type 0} (f : A → B → C) where
-  both-at : (a : A) (b : B) (c : C) (xs : List A) (ys : List B) → length xs ≡ length ys → (j : ℕ) → j < length xs → getD (zipWith f xs ys) j c ≡ f (getD xs j a) (getD ys j b)
-  unfolding zipWith
-  both-at a b c [] ys e j h = absurd (not-suc-le-zero h)
-  both-at a b c (x ∷ xs) [] e j h = absurd (omega arith)
-  both-at a b c (x ∷ xs) (y ∷ ys) e zero h = refl
-  both-at a b c (x ∷ xs) (y ∷ ys) e (suc j) h = both-at a b c xs ys (omega arith) j (le-of-suc-le-suc h)
-
-  both-long : (xs : List A) (ys : List B) → length xs ≡ length ys → length (zipWith f xs ys) ≡ length xs
-  unfolding zipWith
-  both-long [] ys e = refl
-  both-long (x ∷ xs) [] e = absurd (omega arith)
-  both-long (x ∷ xs) (y ∷ ys) e = ap suc (both-long xs ys (omega arith))
-
--- the stored layers, found at their places
-module _ (widths rs : List ℕ) (es : List ℤ) (m : length widths ≡ length rs) (n : length widths ≡ length es) where
-  abbrev started : List (ℤ → Layer)
-  started = zipWith storedLayer widths rs
-
-  started-long : length started ≡ length es
-  started-long = both-long storedLayer widths rs m ∙ n
-
-  layers-long : length (storedLayers widths rs es) ≡ length widths
-  unfolding storedLayers
-  layers-long = both-long (λ stored e. stored e) started es started-long ∙ both-long storedLayer widths rs m
-
-  layers-at : (d : Layer) (j : ℕ) → j < length widths → getD (storedLayers widths rs es) j d ≡ layerAt widths rs es j
-  unfolding storedLayers
-  layers-at d j h =
-      both-at (λ stored e. stored e) (λ e. d) (pos 0) d started es started-long j (omega (arith, both-long storedLayer widths rs m))
-      ∙ ap (λ (g : ℤ → Layer). g (getD es j (pos 0))) (both-at storedLayer 0 0 (λ e. d) widths rs m j h)
 
 -- ---- a single within half a step of a double
 
@@ -214,7 +176,7 @@ module _ (cs : List Call) (mark : ℕ) (ws : List ℕ) (some : 0 < length (accep
     layer-is = stored-at mark L widths vs codes references exponents packs j in-vs
 
     known : widthInRange width ≡ true
-    known = all-at widthInRange widths (a .widths-known) j (rw widths-long h)
+    known = all-at widthInRange 0 widths (a .widths-known) j (rw widths-long h)
 
     width-least : 2 ≤ width
     width-least = leb-true 2 width (and-first (leb 2 width) (leb width 16) known)
@@ -226,7 +188,7 @@ module _ (cs : List Call) (mark : ℕ) (ws : List ℕ) (some : 0 < length (accep
     packable = part-packable mark L widths vs codes references exponents packs j in-vs
 
     layer-finite : finite 23 8 (layer mark width part .reference) ≡ true
-    layer-finite = reference-finite mark width part (λ i k n. below-finite 23 8 (getD part i 0) (packable i k n))
+    layer-finite = reference-finite 277 mark width part packable
 
     finite-at : finite 23 8 (getD (p .references) j 0) ≡ true
     unfolding storedLayer

@@ -18,12 +18,12 @@ use Rattle.meaning.specs.Claim.{Kept, Coded}
 use Rattle.meaning.proofs.Nearest.{nearest-multiple}
 use Rattle.meaning.proofs.Sizes.{Form, form, size-form}
 use Rattle.meaning.proofs.Patterns.{finite-below}
-use Rattle.meaning.proofs.Packing.{code-present, layer-least, layer-codes, singles-held, codes-apart}
+use Rattle.meaning.proofs.Packing.{Packable, code-present, layer-least, layer-codes, singles-held, codes-apart}
+use Rattle.meaning.proofs.References.{reference-finite}
 use Rattle.meaning.proofs.Packed.{largest-mono, magnitude-bound}
 use Rattle.papers.specs.LayerBounds.{layer, AllFinite}
 use Rattle.papers.specs.Unpacked.{Unpacked, CodeOf, double, meaningSize, apart}
 use Rattle.papers.proofs.Gaps.{gap}
-use Rattle.papers.proofs.References.{reference-finite}
 use Rattle.papers.proofs.Doubles.{Few, n, code-low, code-small, whole, zero-bits, step-bits, held-bits, double-sign, within, by-bits, sent, half-exact, half-tiny}
 use Rattle.papers.proofs.Distances.{through-step}
 
@@ -97,8 +97,14 @@ module _ (mark width : ℕ) (ws : List ℕ) (least : 2 ≤ width) (most : width 
   abbrev C : ℕ
   C = code 23 8 mark (layer mark width ws) (getD ws i 0)
 
+  packable : Packable 23 8 mark ws
+  packable j k o = finite-below 23 8 (getD ws j 0) (fin j k o)
+
   held : holds width (span 23 8 (summary 23 8 mark ws)) 277 ≡ true
-  held = singles-held mark width ws least (λ j k o. finite-below 23 8 (getD ws j 0) (fin j k o))
+  held = singles-held mark width ws least packable
+
+  R-finite : finite 23 8 (L .reference) ≡ true
+  R-finite = reference-finite 277 mark width ws packable
 
   few-steps : L .exponent ≤ 277
   few-steps = layer-least 23 8 277 mark width ws held 277 held
@@ -108,15 +114,12 @@ module _ (mark width : ℕ) (ws : List ℕ) (least : 2 ≤ width) (most : width 
   coded = (most, omega (arith, layer-codes 23 8 277 mark width ws held i h .other-code p, codes-apart width (omega arith)))
 
   half-made : 2 * apart W (double L C) ≤ 2 ^ L .exponent * 2 ^ 925
-  half-made = half-kept L C W (reference-finite mark width ws fin) few-steps coded (fin i h p) (layer-codes 23 8 277 mark width ws held i h .half-step p)
+  half-made = half-kept L C W R-finite few-steps coded (fin i h p) (layer-codes 23 8 277 mark width ws held i h .half-step p)
 
   made : (magnitude 23 8 (L .reference) ≡ 0) ⊎ (L .exponent + width ≤ spacingExp 23 (magnitude 23 8 (L .reference)) + 53) → size 52 (magnitude 52 11 (double L C)) ≡ meaningSize L C
   unfolding layerOf
   made z = go (decLt (position 23 8 (L .reference)) (position 23 8 W)) z
     where
-      R : finite 23 8 (L .reference) ≡ true
-      R = reference-finite mark width ws fin
-
       few : C < 65535
       few = code-small L C coded
 
@@ -127,11 +130,11 @@ module _ (mark width : ℕ) (ws : List ℕ) (least : 2 ≤ width) (most : width 
 
       go : Dec (position 23 8 (L .reference) < position 23 8 W) → (magnitude 23 8 (L .reference) ≡ 0) ⊎ (L .exponent + width ≤ spacingExp 23 (magnitude 23 8 (L .reference)) + 53)
           → size 52 (magnitude 52 11 (double L C)) ≡ meaningSize L C
-      go (no o) y = rw (none (omega arith)) (reference-exact L R few-steps)
-      go (yes o) (inl y) = by-bits L C R few-steps few (zero-bits L C R few-steps few y)
+      go (no o) y = rw (none (omega arith)) (reference-exact L R-finite few-steps)
+      go (yes o) (inl y) = by-bits L C R-finite few-steps few (zero-bits L C R-finite few-steps few y)
       go (yes o) (inr y) =
-          by-bits L C R few-steps few
-          (step-bits L C R few-steps few coded y (omega (arith, packed-held L C W R (fin i h p) (coded .1) o (layer-codes 23 8 277 mark width ws held i h .half-step p))))
+          by-bits L C R-finite few-steps few
+          (step-bits L C R-finite few-steps few coded y (omega (arith, packed-held L C W R-finite (fin i h p) (coded .1) o (layer-codes 23 8 277 mark width ws held i h .half-step p))))
 
 pub is-unpacked : (mark : ℕ) (l : Layer) (c : ℕ) → c < missingCode (l .width) → unpackedCode mark l c ≡ double l c
 unfolding unpackedCode

@@ -114,7 +114,7 @@ fn run() {
 fn about() {
     io::write_all(
         STDERR_FILENO,
-        b"trimlist 2.4.0\ntrims the text that it reads from standard input: trimlist <text\n",
+        b"trimlist 2.5.0\ntrims the text that it reads from standard input: trimlist <text\n",
     );
 }
 

@@ -15,6 +15,7 @@ use Rattle.meaning.specs.Layers.{layers, unpackedCodes}
 use Rattle.meaning.specs.Questions.{Outcome, refused, accepted, ask, all, isNan, widthInRange, exponentInRange, codeInRange, unpackQuestions}
 use Rattle.meaning.specs.Calls.{AfterUnpack, leaving, storedLayers, unpack}
 use Rattle.meaning.proofs.Accepted.{and-first, and-second}
+use Rattle.meaning.proofs.Elements.{all-at}
 use Rattle.asking_layers.specs.LayerAsked.{layerRefusal}
 use Rattle.asking_layers.proofs.Layers.{Lengths, layers-asked, lengths}
 use Rattle.asking_values.specs.Asked.{refusalOf}
@@ -22,7 +23,7 @@ use Rattle.asking_codes.specs.Codes.{InLayers}
 use Rattle.decoding.specs.Floats.{finiteFloat}
 use Rattle.decoding.proofs.References.{pattern-finite}
 use Rattle.unpacking.specs.Known.{Known}
-use Rattle.unpacking.proofs.Turns.{all-at, Singles}
+use Rattle.unpacking.proofs.Turns.{Singles}
 
 all-patterns : (rs : List Float) → Singles rs → all (finite 23 8) (map (toBits binary32) rs) ≡ all finiteFloat rs
 unfolding all
@@ -108,7 +109,7 @@ module _ (mark L : ℕ) (ws cs : List ℕ) (rs : List Float) (es : List ℤ) (ys
         some = l .some;
         whole = l .whole;
         one-width = l .one-width;
-        few-bits = λ i k. let w = getD ws i 0 in leb-true w 16 (and-second (leb 2 w) (leb w 16) (all-at widthInRange 0 ws i (l .widths-known) k));
+        few-bits = λ i k. let w = getD ws i 0 in leb-true w 16 (and-second (leb 2 w) (leb w 16) (all-at widthInRange 0 ws (l .widths-known) i k));
       }
 
   pub accepted-call : no ≡ 0 → codesKnown ≡ true → (done ≡ left .answer) × (unpackedCodes mark L (storedLayers ws (map (toBits binary32) rs) es) cs ≡ left .readings)

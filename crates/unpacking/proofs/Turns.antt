@@ -1,9 +1,9 @@
 -- The loop over layers, over plain lists: what is written of the readings, and then what the layers that are left unpack to, is the whole.
 use mathlib.Core.Path.{_≡_, refl, sym, ap, _∙_, subst}
-use mathlib.Core.Bool.{Bool, true}
+use mathlib.Core.Bool.{true}
 use mathlib.Core.List.{List, [], _∷_, _++_, map, zipWith, flatten}
 use Prim.Native.Nat.{ℕ, zero, suc, _+_, _-_, _*_, _^_, _≤_, _<_}
-use native.Mathlib.Nat.{div-add-mod', le-of-suc-le-suc, not-suc-le-zero, sub-zero, zero-add}
+use native.Mathlib.Nat.{div-add-mod', sub-zero, zero-add}
 use native.Mathlib.Omega.{arith}
 use borrow.Author.Tests.{leb-true}
 use lib.Dec.{T, leb}
@@ -13,7 +13,8 @@ use lib.Ieee.{Float, nan, binary32, binary64, ofInt, toBits, fits}
 use Rattle.meaning.specs.Layers.{Layer, missingCode, runs, layers, unpackedCode, unpackedCodes}
 use Rattle.meaning.specs.Questions.{all, widthInRange, exponentInRange}
 use Rattle.meaning.specs.Calls.{storedLayer, storedLayers}
-use Rattle.meaning.proofs.Accepted.{and-first, and-second}
+use Rattle.meaning.proofs.Accepted.{and-second}
+use Rattle.meaning.proofs.Elements.{all-at, layers-long, layers-at}
 use Rattle.meaning.proofs.Layering.{map-at, run-left, Written, written-turn, written-end}
 use Rattle.parts.proofs.Back.{back, length-back, take-back}
 use Rattle.decoding.specs.declared.LayerFloats.{LayerFloats}
@@ -22,12 +23,6 @@ use Rattle.decoding.proofs.Codes.{code-decoded}
 use Rattle.unpacking.specs.Known.{Known}
 
 -- ---- elements of lists
-
-pub all-at : {A : Type 0} (f : A → Bool) (d : A) (xs : List A) (i : ℕ) → all f xs ≡ true → i < length xs → f (getD xs i d) ≡ true
-unfolding all
-all-at f d [] i e h = absurd (not-suc-le-zero h)
-all-at f d (x ∷ xs) zero e h = and-first (f x) (all f xs) e
-all-at f d (x ∷ xs) (suc i) e h = all-at f d xs i (and-second (f x) (all f xs) e) (le-of-suc-le-suc h)
 
 -- every element is a single
 abbrev pub Singles : List Float → Type 0
@@ -54,23 +49,6 @@ map-below B f g e (x ∷ xs) h = ap (λ y. y ∷ map f xs) (e x (h 0)) ∙ ap (�
 
 -- ---- the layers as they are stored
 
-stored-at : (ws rs : List ℕ) (es : List ℤ) (d : Layer) (i : ℕ) → i < length ws → i < length rs → i < length es
-    → getD (storedLayers ws rs es) i d ≡ storedLayer (getD ws i 0) (getD rs i 0) (getD es i (pos 0))
-unfolding storedLayers zipWith
-stored-at [] rs es d i h k l = absurd (not-suc-le-zero h)
-stored-at (w ∷ ws) [] es d i h k l = absurd (not-suc-le-zero k)
-stored-at (w ∷ ws) (r ∷ rs) [] d i h k l = absurd (not-suc-le-zero l)
-stored-at (w ∷ ws) (r ∷ rs) (e ∷ es) d zero h k l = refl
-stored-at (w ∷ ws) (r ∷ rs) (e ∷ es) d (suc i) h k l = stored-at ws rs es d i (le-of-suc-le-suc h) (le-of-suc-le-suc k) (le-of-suc-le-suc l)
-
-stored-length : (ws rs : List ℕ) (es : List ℤ) → length ws ≡ length rs → length es ≡ length rs → length (storedLayers ws rs es) ≡ length rs
-unfolding storedLayers zipWith
-stored-length [] [] es h k = refl
-stored-length [] (r ∷ rs) es h k = absurd (omega arith)
-stored-length (w ∷ ws) [] es h k = absurd (omega arith)
-stored-length (w ∷ ws) (r ∷ rs) [] h k = absurd (omega arith)
-stored-length (w ∷ ws) (r ∷ rs) (e ∷ es) h k = ap suc (stored-length ws rs es (omega arith) (omega arith))
-
 -- what becomes of a layer's codes
 abbrev unpackedPart : ℕ → Layer → List ℕ → List ℕ
 unpackedPart mark l part = map (unpackedCode mark l) part
@@ -82,10 +60,15 @@ module _ (ws cs : List ℕ) (rs : List Float) (es : List ℤ) (L mark readings :
   abbrev stored : List Layer
   stored = storedLayers ws (map (toBits binary32) rs) es
 
-  stored-long : Known ws cs rs es L readings → length stored ≡ length rs
-  stored-long k =
-      stored-length ws (map (toBits binary32) rs) es (rw length-map (omega (arith, k .one-reference, k .one-width))) (rw length-map (omega (arith, k .one-reference, k .one-exponent)))
-      ∙ length-map rs (toBits binary32)
+  module _ (k : Known ws cs rs es L readings) where
+    one-reference : length ws ≡ length (map (toBits binary32) rs)
+    one-reference = rw length-map (omega (arith, k .one-reference, k .one-width))
+
+    one-exponent : length ws ≡ length es
+    one-exponent = omega (arith, k .one-exponent, k .one-width)
+
+    stored-long : length stored ≡ length rs
+    stored-long = layers-long ws (map (toBits binary32) rs) es one-reference one-exponent ∙ omega (arith, k .one-reference, k .one-width)
 
   pub record Turn (ys : List ℕ) (a i : ℕ) : Type 0 where
     pub known : Known ws cs rs es L readings
@@ -121,15 +104,15 @@ module _ (ws cs : List ℕ) (rs : List Float) (es : List ℤ) (L mark readings :
     width-there h = omega (arith, inv .known .one-reference, inv .known .one-width)
 
     pub reference-finite : i < length rs → finiteFloat (getD rs i nan) ≡ true
-    reference-finite h = all-at finiteFloat nan rs i (inv .known .references-known) h
+    reference-finite h = all-at finiteFloat nan rs (inv .known .references-known) i h
 
     pub exponent-step : i < length rs → exponentInRange (getD es i (pos 0)) ≡ true
-    exponent-step h = all-at exponentInRange (pos 0) es i (inv .known .exponents-known) (exponent-there h)
+    exponent-step h = all-at exponentInRange (pos 0) es (inv .known .exponents-known) i (exponent-there h)
 
     pub width-few : i < length rs → getD ws i 0 ≤ 16
     width-few h =
         let w = getD ws i 0 in
-        leb-true w 16 (and-second (leb 2 w) (leb w 16) (all-at widthInRange 0 ws i (inv .known .widths-known) (width-there h)))
+        leb-true w 16 (and-second (leb 2 w) (leb w 16) (all-at widthInRange 0 ws (inv .known .widths-known) i (width-there h)))
 
     -- the layer's codes as the code has them
     module _ (h : i < length rs) (small : Below (2 ^ 16) cs) (l : LayerFloats) (fit : T (fits binary32 (l .reference))) (re : l .reference ≡ getD rs i nan)
@@ -139,7 +122,7 @@ module _ (ws cs : List ℕ) (rs : List Float) (es : List ℤ) (L mark readings :
 
       layer-at : getD stored i none ≡ layer
       layer-at =
-          stored-at ws (map (toBits binary32) rs) es none i (width-there h) (rw length-map h) (exponent-there h)
+          layers-at ws (map (toBits binary32) rs) es (one-reference (inv .known)) (one-exponent (inv .known)) none i (width-there h)
           ∙ ap (λ (r : ℕ). storedLayer (getD ws i 0) r (getD es i (pos 0))) (map-at (toBits binary32) nan 0 rs i h)
 
       layer-is : (k : ℕ) → map (decoded l mark) (take k (drop a cs)) ≡ unpackedPart mark layer (take k (drop a cs))

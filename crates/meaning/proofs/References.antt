@@ -1,4 +1,4 @@
--- The reference of a layer of finite readings is finite.
+-- The reference of a layer that can be packed is finite.
 use mathlib.Core.Path.{_≡_, refl}
 use mathlib.Core.Bool.{Bool, true, false, cond}
 use mathlib.Core.List.{List, [], _∷_}
@@ -7,9 +7,10 @@ use native.Mathlib.Decide.{ℕ-discrete}
 use native.Mathlib.Omega.{arith}
 use borrow.Author.Tests.{eq-eqb, ne-eqb}
 use lib.Dec.{leb, eqb}
 use Rattle.meaning.specs.Readings.{magnitude, infinity, finite, position, missing}
 use Rattle.meaning.specs.Layers.{Summary, Nothing, Flat, Spread, smallest, plusZero, smaller, larger, widened, summary, layerOf}
-use Rattle.papers.specs.LayerBounds.{layer, AllFinite}
+use Rattle.meaning.proofs.Patterns.{below-finite}
+use Rattle.meaning.proofs.Packing.{Packable}
 
 -- a summary of finite readings has finite values
 abbrev Finites : Summary → Type 0
@@ -39,18 +40,18 @@ plain : (w : ℕ) → finite 23 8 w ≡ true → finite 23 8 (plusZero 23 8 w) �
 unfolding plusZero
 plain w f = chosen (eqb (magnitude 23 8 w) 0) 0 w zero-finite f
 
-summary-finite : (mark : ℕ) (ws : List ℕ) → AllFinite mark ws → Finites (summary 23 8 mark ws)
+summary-finite : (mark : ℕ) (ws : List ℕ) → Packable 23 8 mark ws → Finites (summary 23 8 mark ws)
 unfolding summary missing
 summary-finite mark [] p = tt
 summary-finite mark (w ∷ ws) p = go (ℕ-discrete w mark) (summary-finite mark ws (λ i h. p (suc i) (suc-le-suc h)))
   where
     go : Dec (w ≡ mark) → Finites (summary 23 8 mark ws) → Finites (summary 23 8 mark (w ∷ ws))
     go (yes e) u = rw (eq-eqb w mark e) u
-    go (no e) u = rw (ne-eqb w mark e) (widened-finite (plusZero 23 8 w) (summary 23 8 mark ws) (plain w (p 0 (omega arith) e)) u)
+    go (no e) u = rw (ne-eqb w mark e) (widened-finite (plusZero 23 8 w) (summary 23 8 mark ws) (plain w (below-finite 23 8 w (p 0 (omega arith) e))) u)
 
-pub reference-finite : (mark width : ℕ) (ws : List ℕ) → AllFinite mark ws → finite 23 8 (layer mark width ws .reference) ≡ true
+pub reference-finite : (last mark width : ℕ) (ws : List ℕ) → Packable 23 8 mark ws → finite 23 8 (layerOf 23 8 last mark width ws .reference) ≡ true
 unfolding layerOf smallest
-reference-finite mark width ws p = go (summary 23 8 mark ws) (summary-finite mark ws p)
+reference-finite last mark width ws p = go (summary 23 8 mark ws) (summary-finite mark ws p)
   where
     go : (s : Summary) → Finites s → finite 23 8 (smallest s) ≡ true
     go Nothing u = zero-finite

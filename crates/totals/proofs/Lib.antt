@@ -1,0 +1,3 @@
+-- The loops over codes, and the answer by the questions.
+pub mod Gathering
+pub mod Asked
