@@ -154,10 +154,12 @@ uint32_t megharutti_unpack(const uint32_t *widths, size_t n_widths, const uint16
 
 /* Adds up the n codes of one layer, of the given width. Answers 0 and writes two numbers to `totals`: how many codes are present, that is, aren't the
  * missing code 2^width - 1, and the sum of those. Or answers the refusal's number, 3, 11 or 12, asked in this order, and writes nothing.
- * With the layer's reference R and exponent E the layer's total is totals[0] * R + totals[1] * 2^E: exactly what its codes stand for, added up. Of a
- * layer that megharutti_pack wrote, it lies within totals[0] times half a step, 2^E / 2, of the total of the present readings that were packed. To
- * have it exact, work it out in numbers that hold it: a double may round. The width has to be the one that the layer was packed with: with another
- * the totals are wrong, and 12 need not find it. Of layer j of a packed array the codes begin at codes + j * length, and n is length. */
+ * With the layer's reference R and exponent E the layer's total is count times R plus sum times 2^E: exactly what its codes stand for, added up. Of a
+ * layer that megharutti_pack wrote, it lies within count times half a step, 2^E / 2, of the total of the present readings that were packed. In C:
+ *     (double)totals[0] * references[j] + ldexp((double)totals[1], exponents[j])
+ * where both products are exact and the addition may round; totals[0] * references[j] alone would be worked out as a float, and round more.
+ * Of layer j of a packed array the codes begin at codes + j * length, and n is length. No question finds codes of more than one layer, whose sum means
+ * nothing. The width has to be the one that the layer was packed with: with another the totals may be wrong, and 12 need not find it. */
 uint32_t megharutti_totals(const uint16_t *codes, size_t n, uint32_t width, uint64_t totals[2]);
 
 /* Writes the byte planes of n readings, or the n readings that stand in byte planes. Answers 0; or 13, and writes nothing, unless n_planes is

@@ -200,6 +200,7 @@ int main(void) {
     check("behind the totals", totals[2], 7);
     check("totals of the second layer", megharutti_totals(codes + 3, 3, narrow[1], totals), 0);
     check("present codes of the second layer", totals[0], 2);
+    check("their sum, of the reference alone", totals[1], 0);
     check("a layer of which nothing is present", megharutti_totals((const uint16_t[5]){31, 31, 31, 31, 31}, 5, 5, totals), 0);
     check("none present", totals[0] + totals[1], 0);
     check("nine codes of 16 bits", megharutti_totals((const uint16_t[9]){1, 2, 4, 8, 16, 32, 64, 65535, 65534}, 9, 16, totals), 0);

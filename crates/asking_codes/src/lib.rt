@@ -1,4 +1,4 @@
-// Question 12 of unpacking: is each code at most its layer's missing code? Internal: the call open to users is unpacking's.
+// Question 12, of unpacking and of totals: is each code at most its layer's missing code? Internal: the calls open to users are those of `unpacking` and `totals`.
 ghost use mathlib.Core.Path.{_≡_};
 ghost use mathlib.Core.List.{zipWith};
 ghost use Rattle.meaning.specs.Layers.{layers};

@@ -1,5 +1,5 @@
-// The questions on layers that packing and unpacking ask first: each in a test of its own, so that a call may ask some of them alone, and then all in their order.
-// Internal: the calls open to users are those of `packing` and `unpacking`.
+// The questions on layers that packing and unpacking ask first: each in a test of its own, so that a call may ask some of them alone, as totals does, and then all in their
+// order. Internal: the calls open to users are those of `packing`, `unpacking` and `totals`.
 ghost use mathlib.Core.Path.{_≡_};
 ghost use mathlib.Core.Bool.{_&&_};
 ghost use mathlib.Core.List.{[], _∷_};

@@ -15,11 +15,12 @@ use table::line::put_number;
 use table::line::put_text;
 use table::line::start_list;
 
-// What a call answers, or has to: the refusal's number, and whether the number of present codes and their sum are told, and which they are.
+// What a call answers, or has to: the refusal's number, whether there is a number of present codes and which, and whether there is a sum and which.
 pub struct Summed {
     pub refusal: u32,
-    pub told: bool,
+    pub counted: bool,
     pub count: u64,
+    pub added: bool,
     pub sum: u64,
 }
 
@@ -27,31 +28,38 @@ fn summed_of(answer: totals::Total) -> Summed {
     match answer {
         totals::Total::Present { count, sum } => Summed {
             refusal: 0,
-            told: true,
+            counted: true,
             count: count as u64,
+            added: true,
             sum: sum as u64,
         },
         totals::Total::Refused(n) => Summed {
             refusal: n,
-            told: false,
+            counted: false,
             count: 0,
+            added: false,
             sum: 0,
         },
     }
 }
 
-// What the row says. Number and sum are both empty where the call is refused.
+// What the row says. An empty number is none, and an empty sum; both are empty where the call is refused.
 fn expected(row: &[u8]) -> Summed {
     Summed {
         refusal: refusal(row, 6),
-        told: field(row, 4).len() > 0 && field(row, 5).len() > 0,
+        counted: field(row, 4).len() > 0,
         count: decimal(row, 4),
+        added: field(row, 5).len() > 0,
         sum: decimal(row, 5),
     }
 }
 
 fn same_summed(a: Summed, b: Summed) -> bool {
-    a.refusal == b.refusal && a.told == b.told && a.count == b.count && a.sum == b.sum
+    a.refusal == b.refusal
+        && a.counted == b.counted
+        && a.count == b.count
+        && a.added == b.added
+        && a.sum == b.sum
 }
 
 fn put_summed(start: usize, s: Summed) -> usize {
@@ -59,9 +67,14 @@ fn put_summed(start: usize, s: Summed) -> usize {
     if s.refusal != 0 {
         at = put_number(put_text(at, b" refused "), s.refusal as u64);
     }
-    if s.told {
-        at = put_number(put_text(at, b" "), s.count);
-        return put_number(put_text(at, b" present, sum "), s.sum);
+    if s.counted {
+        at = put_text(put_number(put_text(at, b" "), s.count), b" present");
+    }
+    if s.counted && s.added {
+        at = put_text(at, b",");
+    }
+    if s.added {
+        return put_number(put_text(at, b" sum "), s.sum);
     }
     at
 }

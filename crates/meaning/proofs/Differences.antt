@@ -8,7 +8,7 @@ use borrow.Author.Tests.{lt-ltb, le-ltb}
 use lib.IntN.{ℤ, pos, negsuc, negℤ, natAbs, subℕ, _+ℤ_, _-ℤ_, _*ℤ_}
 use Rattle.meaning.specs.Readings.{distance}
 
-below : (a b : ℕ) → a < b → subℕ a b ≡ negsuc (b - suc a)
+pub below : (a b : ℕ) → a < b → subℕ a b ≡ negsuc (b - suc a)
 below a b h = rw (lt-ltb a b h) refl
 
 pub from : (a b : ℕ) → b ≤ a → subℕ a b ≡ pos (a - b)

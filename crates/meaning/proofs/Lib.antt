@@ -30,8 +30,8 @@ pub mod Bracket
 pub mod Lists
 pub mod Claim
 pub mod Comparing
-pub mod Exponents
 pub mod Differences
+pub mod Exponents
 pub mod Layering
 pub mod Elements
 pub mod Packed

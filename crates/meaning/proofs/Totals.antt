@@ -104,9 +104,6 @@ module _ (F X : ℕ) (l : Layer) (mark : ℕ) where
   abbrev m : ℕ
   m = missingCode (l .width)
 
-  abbrev g : ℕ
-  g = 2 ^ l .exponent
-
   -- A reading w with its code c: twice their distance, and s more, is at most a step and twice what u allows to the reading and v to the code.
   pub record Beside (u v : ℕ → ℕ) (s w c : ℕ) : Type 0 where
     pub missing-code : w ≡ mark → c ≡ missingCode (l .width)
@@ -406,7 +403,7 @@ module _ (mark L : ℕ) (widths vs codes references : List ℕ) (exponents : Lis
 
     layer-total : LayerTotal mark (layerAt widths (p .references) (p .exponents) j) (partAt L j (p .codes)) (partAt L j vs)
     layer-total =
-        rw layer-is (record { answered = accepts; all-counted = near-packed .0; exact = exact 23 8 l (partAt L j (p .codes)); near = omega (arith, half-steps) })
+        rw layer-is (record { answered = accepts; all-counted = near-packed .0; near = omega (arith, half-steps) })
 
   year : 2 * natAbs (yearTotal L ls (p .codes) -ℤ readingsTotal 23 8 mark vs) ≤ yearSteps L ls (p .codes)
   year =
@@ -531,6 +528,7 @@ module _ (cs : List Call) (mark : ℕ) (ws : List ℕ) (some : 0 < length (accep
 pub totals-claim : TotalsClaim
 totals-claim =
     record {
+      exact = exact 23 8;
       each-layer = layer-total;
       year = year;
       each-layer-sent = λ cs mark ws some kind L widths codes references exponents packs j h.

@@ -111,8 +111,6 @@ pub record LayerTotal (mark : ℕ) (l : Layer) (cs ws : List ℕ) : Type 0 where
   -- the call accepts what packing leaves, and answers the totals
   pub answered : totals (l .width) cs ≡ accepted (totalsOf (l .width) cs)
   pub all-counted : totalsOf (l .width) cs .count ≡ presentIn mark ws
-  -- "count times R plus sum times 2^E" is what the codes mean, nothing rounded
-  pub exact : exactTotal 23 8 l (totalsOf (l .width) cs) ≡ meaningsTotal 23 8 l cs
   -- "it lies within count times half a step of the total of the present readings packed"
   pub near : 2 * apart (exactTotal 23 8 l (totalsOf (l .width) cs)) (readingsTotal 23 8 mark ws) ≤ totalsOf (l .width) cs .count * 2 ^ l .exponent
 
@@ -150,8 +148,10 @@ pub record YearSent (xs : List Method) (mark L : ℕ) (ls : List Layer) (cs ws :
 abbrev pub partAt : ℕ → ℕ → List ℕ → List ℕ
 partAt L j xs = take L (drop (j * L) xs)
 
--- Of every packing that is accepted: layer by layer, and the year as a whole.
 pub record TotalsClaim : Type 0 where
+  -- "count times R plus sum times 2^E" is what the codes of a layer mean, nothing rounded: of every layer, however it was made
+  pub exact : (l : Layer) (cs : List ℕ) → exactTotal 23 8 l (totalsOf (l .width) cs) ≡ meaningsTotal 23 8 l cs
+  -- of every packing that is accepted: layer by layer, and the year as a whole
   pub each-layer : (mark L : ℕ) (widths ws codes references : List ℕ) (exponents : List ℤ)
       → let p = pack mark L widths ws codes references exponents in
       p .answer ≡ accepted tt → (j : ℕ) → j < length ws / L

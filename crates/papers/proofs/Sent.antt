@@ -10,9 +10,8 @@ use native.Mathlib.Omega.{arith}
 use borrow.Author.Tests.{le-leb, leb-true, eq-eqb, ltb-true}
 use lib.Dec.{leb}
 use lib.IntN.{ℤ, pos}
-use lib.ListN.{length, getD, take, drop, length-map, length-drop}
+use lib.ListN.{length, getD, take, drop, length-map}
 use lib.Pow.{pow-pos}
-use lib.Seq.{getD-take, getD-drop, length-take-le}
 use Rattle.meaning.specs.Readings.{size, sign, magnitude, infinity, finite, magnitudeOf, origin, position, distance, present}
 use Rattle.meaning.specs.Methods.{Method, trimmable}
 use Rattle.meaning.specs.Layers.{Layer, missingCode, runs, layers, layerOf, unpackedCode, unpackedCodes}
@@ -24,7 +23,7 @@ use Rattle.meaning.proofs.Patterns.{finite-below, size-below, position-plus, po
 use Rattle.meaning.proofs.Packing.{Packable, CodedIn, layer-least, singles-held, codes-apart}
 use Rattle.meaning.proofs.References.{reference-finite}
 use Rattle.meaning.proofs.Elements.{all-at, all-pass, layers-long, layers-at}
-use Rattle.meaning.proofs.Layering.{map-at, zip-at, zip-length, flat-at, flat-length}
+use Rattle.meaning.proofs.Layering.{part-long, part-at, map-at, zip-at, zip-length, flat-at, flat-length}
 use Rattle.meaning.proofs.Claim.{list-claim}
 use Rattle.meaning.proofs.Packed.{Asked, all-asked, in-layers, stored-at, room, part-packable, coded-at, trimmed-one, still-here, largest-mono, demand-3}
 use Rattle.papers.specs.LayerBounds.{layer}
@@ -213,10 +212,10 @@ module _ (cs : List Call) (mark : ℕ) (ws : List ℕ) (some : 0 < length (accep
     own = take L (drop (j * L) (p .codes))
 
     own-long : length own ≡ L
-    own-long = length-take-le L (drop (j * L) (p .codes)) (simp length-drop (omega (arith, claim .codes-long, full, mul-le-mul-right L h)))
+    own-long = part-long L j (p .codes) (omega (arith, claim .codes-long, full, mul-le-mul-right L h))
 
     own-at : (i : ℕ) → i < L → getD own i 0 ≡ getD (p .codes) (j * L + i) 0
-    own-at i k = getD-take L (drop (j * L) (p .codes)) i 0 k ∙ getD-drop (j * L) (p .codes) i 0
+    own-at i k = part-at L j (p .codes) i k
 
     -- no code is above the missing one
     codes-known : inRange width own ≡ true
@@ -268,8 +267,8 @@ module _ (cs : List Call) (mark : ℕ) (ws : List ℕ) (some : 0 < length (accep
   abbrev unpackedPart : Layer → List ℕ → List ℕ
   unpackedPart l own = map (unpackedCode doubleMark l) own
 
-  part-long : (l : Layer) (own : List ℕ) → length (unpackedPart l own) ≡ length own
-  part-long l own = length-map own (unpackedCode doubleMark l)
+  unpacked-long : (l : Layer) (own : List ℕ) → length (unpackedPart l own) ≡ length own
+  unpacked-long l own = length-map own (unpackedCode doubleMark l)
 
   readings-are : u .readings ≡ flatten (zipWith unpackedPart ls (runs L (length ws / L) (p .codes)))
   unfolding unpack leaving unpackedCodes layers
@@ -279,7 +278,7 @@ module _ (cs : List Call) (mark : ℕ) (ws : List ℕ) (some : 0 < length (accep
   unpack-claim =
       record {
         is-accepted = answer-is;
-        doubles-long = ap length readings-are ∙ flat-length L none unpackedPart part-long (length ws / L) ls (p .codes) ls-long codes-enough ∙ full;
+        doubles-long = ap length readings-are ∙ flat-length L none unpackedPart unpacked-long (length ws / L) ls (p .codes) ls-long codes-enough ∙ full;
         each-double = λ i h.
             subst (Sent (i / L)) (div-add-mod' i L) (place (i / L) (i % L) (div-lt-iff-lt-mul {k = L} {x = i} {y = length ws / L} (a .some) .1 (omega (arith, full))) (mod-lt i (a .some)));
       }
@@ -306,7 +305,7 @@ module _ (cs : List Call) (mark : ℕ) (ws : List ℕ) (some : 0 < length (accep
       double-at : (j i : ℕ) (h : j < length ws / L) → i < L → getD (u .readings) (j * L + i) 0 ≡ unpackedCode doubleMark (stored j) (getD (p .codes) (j * L + i) 0)
       double-at j i h k =
           ap (λ (x : List ℕ). getD x (j * L + i) 0) readings-are
-          ∙ flat-at L none unpackedPart part-long (length ws / L) j i ls (p .codes) ls-long codes-enough h k
+          ∙ flat-at L none unpackedPart unpacked-long (length ws / L) j i ls (p .codes) ls-long codes-enough h k
           ∙ ap (λ (l : Layer). getD (unpackedPart l (own j h)) i 0) (layers-at widths (p .references) (p .exponents) references-long exponents-long none j (rw widths-long h))
           ∙ map-at (unpackedCode doubleMark (stored j)) 0 0 (own j h) i (rw (own-long j h) k) ∙ ap (unpackedCode doubleMark (stored j)) (own-at j h i k)
 
