@@ -74,7 +74,7 @@ enum Rule {
     TwoFirst, ThirteenSecond, ThirteenFirst, ByFive, Longer, Shorter, Wraps, Wraps32, AnyMultiple, PartLeft, PartLacks, OtherBytes,
     EmptyUnasked, BufferUnasked, NothingRefused, EmptyMethod, EmptySetting, Range(i32, i32), OtherRange, Method8, Setting16,
     RefusedCleared, RefusedFirst, RefusedCounts, RefusedCount(usize),
-    BackSwapped, PromiseHalves, PromiseLast, PromiseSetting, PromiseMark, PromiseTwice,
+    BackSwapped, PromiseHalves, PromiseLast, PromiseSetting, PromiseMark, PromiseTwice, PromiseAnew,
 }
 use Rule::*;
 
@@ -188,6 +188,7 @@ fn turned(bytes: usize) -> Vec<(Rule, String, Vec<Call>)> {
     add(PromiseSetting, "claim: the array's setting may be the next".to_string(), &[Promise]);
     add(PromiseMark, "claim: the array's mark may differ in its first bit".to_string(), &[Promise]);
     add(PromiseTwice, "claim: the array's counts may be those of a second trim".to_string(), &[Promise]);
+    add(PromiseAnew, "claim: the array's later trims may begin with the readings as they were".to_string(), &[Promise]);
     out
 }
 
@@ -753,23 +754,37 @@ fn there_and_back<T: Pattern>(t: &mut Tally, model: &Model, n: usize) {
     t.all(&again, &readings, |_| format!("{n} readings, to planes and back"));
     t.meet("ways there and back", 2);
 }
-/// The promise by the library alone: trimming in planes gives the planes of the trimmed array, the same answer and the same counts.
+/// The promise by the library alone, for a list of one to three trims in turn with one mark: after each, the planes are those of the
+/// array after as many, with the same answer and the same counts. Refused trims stand among them.
 fn promise<T: Pattern>(t: &mut Tally, model: &Model, n: usize, method: u32) {
     if t.skips(Promise) { return; }
     let form = &model.form;
-    let known = method.min(6);
-    let setting = if t.below(12) == 0 { form.range(known).1 + 1 } else { setting(t, form, known) };
     let kind = 2 * t.below(10) as usize;
     let awkward = [ends(form), telling(t, form, model.bytes)].concat();
     let mark = mark(t, form, kind, &[]);
     let draw = |_| match t.below(8) { 0 => mark, 1 | 2 => t.pick(&awkward), _ => t.random() & form.all };
     let readings: Vec<u64> = (0..n).map(draw).collect();
-    let (mut array, size): (Vec<T>, usize) = (cells(&readings), n * T::BYTES);
-    let (mut planes, mut wanted) = (vec![0; size], vec![0; size]);
+    let (mut array, mut planes): (Vec<T>, Vec<u8>) = (cells(&readings), vec![0; n * T::BYTES]);
+    unsafe { T::TO(array.as_ptr(), n, planes.as_mut_ptr(), planes.len()) };
+    let trims = 1 + t.below(3);
+    for k in 0..trims {
+        let method = if k == 0 { method } else { t.below(8) as u32 };
+        let known = method.min(6);
+        let setting = if t.below(12) == 0 { form.range(known).1 + 1 } else { setting(t, form, known) };
+        if k > 0 && model.is(PromiseAnew) { array = cells(&readings); }
+        let kept = promised(t, model, &mut array, &mut planes, Job { method, setting, mark });
+        t.meet("promises", 1);
+        t.meet("promises of refused trims", !kept as u64);
+        t.meet("promises of a later trim in a list", (k > 0) as u64);
+    }
+}
+/// One trim of an array and of its planes. Answers whether it was accepted.
+fn promised<T: Pattern>(t: &mut Tally, model: &Model, array: &mut [T], planes: &mut [u8], job: Job) -> bool {
+    let (form, n) = (&model.form, array.len());
+    let Job { method, setting, mark } = job;
     let (mut told, mut counts) = ([UNTOLD; 6], [UNTOLD; 6]);
-    unsafe { T::TO(array.as_ptr(), n, planes.as_mut_ptr(), size) };
-    let answer = unsafe { T::TRIM_PLANES(planes.as_mut_ptr(), size, n, method, setting, T::of(mark), told.as_mut_ptr()) };
-    let array_setting = setting + (model.is(PromiseSetting) && setting < form.range(known).1) as i32;
+    let answer = unsafe { T::TRIM_PLANES(planes.as_mut_ptr(), planes.len(), n, method, setting, T::of(mark), told.as_mut_ptr()) };
+    let array_setting = setting + (model.is(PromiseSetting) && setting < form.range(method.min(6)).1) as i32;
     let array_mark = T::of(if model.is(PromiseMark) { mark ^ form.sign } else { mark });
     let mut by_array = |part: &mut [T]| unsafe {
         T::TRIM(part.as_mut_ptr(), part.len(), method, array_setting, array_mark, counts.as_mut_ptr())
@@ -779,17 +794,16 @@ fn promise<T: Pattern>(t: &mut Tally, model: &Model, n: usize, method: u32) {
         let (first, second) = array.split_at_mut(n / 2);
         by_array(first);
         by_array(second)
-    } else { by_array(&mut array) };
-    if model.is(PromiseTwice) { by_array(&mut array); }
+    } else { by_array(array) };
+    if model.is(PromiseTwice) { by_array(array); }
     if model.is(PromiseLast) && n > 0 { array[n - 1] = last.unwrap(); }
     if model.is(PromiseHalves) { counts = told; }
-    unsafe { T::TO(array.as_ptr(), n, wanted.as_mut_ptr(), size) };
-    let job = Job { method, setting, mark };
+    let mut wanted = vec![0; planes.len()];
+    unsafe { T::TO(array.as_ptr(), n, wanted.as_mut_ptr(), wanted.len()) };
     t.same(answer as u64, other as u64, || format!("promise, answers: {}, {n} readings", job.told()));
-    t.all(&planes, &wanted, |_| format!("promise, planes of the trimmed array: {}, {n} readings", job.told()));
+    t.all(planes, &wanted, |_| format!("promise, planes of the trimmed array: {}, {n} readings", job.told()));
     t.all(&told, &counts, |_| format!("promise, counts: {}, {n} readings", job.told()));
-    t.meet("promises", 1);
-    t.meet("promises of refused trims", (answer != 0) as u64);
+    answer == 0
 }
 
 /// Lengths about each end of a usual block, and of several blocks with a rest.
@@ -1099,6 +1113,7 @@ fn wanted(bytes: usize) -> Vec<(String, u64)> {
     add("groomed readings at a turn that isn't even or odd as the place is", 100_000);
     for what in ["ways there and back", "promises", "calls between pages that can't be read"] { add(what, 100); }
     add("promises of refused trims", 20);
+    add("promises of a later trim in a list", 100);
     add("readings trimmed", 1_000_000);
     out
 }
