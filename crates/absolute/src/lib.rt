@@ -4,20 +4,22 @@
 // is zero or a normal number. So a caller's program may have its machine take subnormal numbers for zero. Rattle's logic knows nothing of that, and no proof needs the least
 // unit that `fine_..` ask for: tests/settings.c does.
 // Internal: the calls open to users are those of `trim`.
+#![tactic(auto)]
+
 ghost use Rattle.std.specs.Prelude.{◌≡◌, cond, ℕ, ◌+◌, ◌*◌, ◌^◌, ◌<◌, ◌≤◌, eqb};
 ghost use Rattle.meaning.specs.Readings.{infinity, spacing_exp};
 ghost use Rattle.meaning.specs.Methods.{absolute, nearest, clips, new_magnitude};
 ghost use Rattle.absolute.specs.Stepped.{Stepped};
 
 // The new magnitude of a single, and 1 where it was clipped, else 0.
-#[derive(Drop)]
+#[derive(Clone, Copy)]
 pub struct Coarse {
     pub magnitude: u32,
     pub clipped: u32,
 }
 
 // The same of a double.
-#[derive(Drop)]
+#[derive(Clone, Copy)]
 pub struct Coarse64 {
     pub magnitude: u64,
     pub clipped: u64,

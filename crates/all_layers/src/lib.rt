@@ -1,4 +1,6 @@
 // All layers of an array, packed one after another. How one layer is packed is in `layering`. Internal: the call open to users is packing's.
+#![tactic(auto)]
+
 ghost use Rattle.std.specs.Prelude.{◌≡◌, map};
 ghost use Rattle.std.specs.Float.{binary32};
 ghost use Rattle.std.specs.Float.Ieee.{to_bits};

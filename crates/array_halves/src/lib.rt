@@ -1,6 +1,8 @@
 // Arrays of numbers and arrays of their halves: the low or the high halves of numbers, and numbers joined from their halves. A byte is half of 16 bits, these are half of 32, and
 // those half of 64. Halving is what the machine does best with 16 bytes at once: to cut the bytes straight out of a wider number takes 1.4 to 2.2 times as long. Internal: the calls
 // open to users are those of `planes`.
+#![tactic(auto)]
+
 ghost use Rattle.std.specs.Prelude.{◌≡◌, ◌+◌, ◌*◌, ◌/◌, ◌%◌, ◌^◌, ◌≤◌, ◌<◌, length};
 ghost use mathlib.Core.List.{map, zip_with};
 

@@ -1,6 +1,8 @@
 // Readings in byte planes: what is written to the planes of n readings from a place on, and what is read there. All bytes of a plane stand together, so the next byte of a reading
 // stands n further on. By blocks that stay in the nearest cache, and by halves (`array_halves`): a double is two words, a single or a word two pairs, a pair two bytes. Internal: the
 // calls open to users are those of `planes`.
+#![tactic(auto)]
+
 ghost use Rattle.std.specs.Prelude.{◌≡◌, ◌≤◌, length};
 ghost use Rattle.array_planes.specs.Places.{stored, fetched, Room};
 

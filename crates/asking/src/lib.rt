@@ -1,13 +1,15 @@
 // The questions that a trim asks before it begins, in both widths: is the method known, is its setting in range?
 // The answer of a trim holds the setting as a natural number, so that no code after it works with signed numbers.
 // Internal: the calls open to users are those of `trim` and `beyond`.
+#![tactic(auto)]
+
 ghost use Rattle.std.specs.Prelude.{◌≡◌, cond, leb, eqb, pos, negsuc, nat_abs};
 ghost use Rattle.meaning.specs.Questions.{above, between, setting_in_range};
 ghost use Rattle.asking.specs.Asked.{refusal_of, number_of, asked_number};
 
 // The refusal's number, or 0; and where it is 0, the setting as a natural number: for method 5 the setting plus 149 (1074 for doubles), else the setting itself.
 // After a refusal the number is 0.
-#[derive(Drop)]
+#[derive(Clone, Copy)]
 pub struct Asked {
     pub refusal: u32,
     pub number: u32,

@@ -1,4 +1,6 @@
 // Question 12, of unpacking and of totals: is each code at most its layer's missing code? Internal: the calls open to users are those of `unpacking` and `totals`.
+#![tactic(auto)]
+
 ghost use Rattle.std.specs.Prelude.{◌≡◌};
 ghost use mathlib.Core.List.{zip_with};
 ghost use Rattle.meaning.specs.Layers.{layers};

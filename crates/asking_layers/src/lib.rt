@@ -1,5 +1,7 @@
 // The questions on layers that packing and unpacking ask first: each in a test of its own, so that a call may ask some of them alone, as totals does, and then all in their
 // order. Internal: the calls open to users are those of `packing`, `unpacking` and `totals`.
+#![tactic(auto)]
+
 ghost use Rattle.std.specs.Prelude.{◌≡◌, ◌&&◌, [], ◌∷◌, ◌≤◌, eqb, length};
 ghost use Rattle.meaning.specs.Questions.{all, length_in_range, whole, width_in_range};
 ghost use Rattle.asking_layers.specs.LayerAsked.{layer_refusal};

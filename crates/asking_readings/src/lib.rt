@@ -1,4 +1,6 @@
 // Question 6 of packing: is each reading finite or the mark? Internal: the call open to users is packing's.
+#![tactic(auto)]
+
 ghost use Rattle.std.specs.Prelude.{◌≡◌};
 ghost use Rattle.meaning.specs.Questions.{all, packable};
 ghost use Rattle.asking_readings.specs.Largest.{largest_present};

@@ -1,4 +1,6 @@
 // Questions 7 and 8 of unpacking: is each reference finite and each exponent one that a step has, and is the mark a NaN? Internal: the call open to users is unpacking's.
+#![tactic(auto)]
+
 ghost use Rattle.std.specs.Prelude.{◌≡◌, ◌&&◌};
 ghost use Rattle.meaning.specs.Questions.{all, is_nan, exponent_in_range};
 ghost use Rattle.decoding.specs.Floats.{finite_float};

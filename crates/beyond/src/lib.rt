@@ -1,5 +1,7 @@
 // The first reading beyond a limit: the raw array beside the trimmed one, before the raw one is wiped. The questions first, then place by place until a place is beyond,
 // and no further, so that the number of readings read is the one that the loop has counted.
+#![tactic(auto)]
+
 ghost use Rattle.std.specs.Prelude.{◌≡◌, cond, eqb};
 ghost use Rattle.meaning.specs.Comparing.{first_beyond_singles, first_beyond_doubles};
 ghost use Rattle.beyond.specs.Answers.{answer_of};
@@ -9,7 +11,7 @@ mod singles;
 
 // What a comparison answers: the first place beyond the limit, and how many readings of each array were read; or that there is none, and how many were read; or the
 // refusal's number.
-#[derive(Drop)]
+#[derive(Clone, Copy)]
 pub enum Compared {
     Beyond { place: usize, read: usize },
     None { read: usize },

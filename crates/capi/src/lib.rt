@@ -1,4 +1,5 @@
 // The interface for C and every language that calls C. An array is a pointer and a length; a call answers 0, or the refusal's number, and then writes nothing.
+#![tactic(auto)]
 
 ghost use Rattle.std.specs.Prelude.{◌≡◌, map};
 ghost use Rattle.std.specs.Float.{binary32};

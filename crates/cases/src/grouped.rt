@@ -30,7 +30,7 @@ fn each_plane(p: [u8; 16]) -> [u32; 4] {
 }
 
 // What the planes of four readings hold after a trim there, those readings once more, and whether the trim was refused.
-#[derive(Drop)]
+#[derive(Clone, Copy)]
 pub struct InPlanes {
     pub planes: [u8; 16],
     pub readings: [u32; 4],

@@ -63,7 +63,7 @@ fn same_doubles(a: [u64; 4], b: [u64; 4]) -> bool {
 const BEFORE: u16 = 7;
 
 // What a packing left, and the refusal's number, 0 for none.
-#[derive(Drop)]
+#[derive(Clone, Copy)]
 pub struct Packs {
     pub number: u32,
     pub references: [u32; 4],
@@ -211,7 +211,7 @@ pub fn asked_pack(row: &[u8]) -> bool {
 }
 
 // What an unpacking left, and the refusal's number, 0 for none.
-#[derive(Drop)]
+#[derive(Clone, Copy)]
 pub struct Unpacks {
     pub number: u32,
     pub readings: [u64; 4],

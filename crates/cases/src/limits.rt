@@ -9,7 +9,7 @@ use table::line::{
 };
 
 // What a comparison answers, or has to: the refusal's number, whether a place was found and which, and whether there is a number of readings read and which.
-#[derive(Drop)]
+#[derive(Clone, Copy)]
 pub struct Seen {
     pub refusal: u32,
     pub found: bool,

@@ -2,6 +2,8 @@
 //
 // To add a case, write it beside its like: its kind, where it stands in which document, what is given, what that document says must come. Type what must come from the
 // document and never from what the program printed. `kinds.rt` has how a row of each kind is written.
+#![tactic(auto)]
+
 mod grouped;
 mod kinds;
 mod layers;

@@ -37,7 +37,7 @@ fn right(row: &[u8]) -> bool {
 }
 
 // What a line adds to the numbers of cases, and of those that are wrong.
-#[derive(Drop)]
+#[derive(Clone, Copy)]
 pub struct Count {
     pub cases: u64,
     pub wrong: u64,

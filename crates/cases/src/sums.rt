@@ -5,7 +5,7 @@ use table::fields::{codes, count, decimal, field, refusal, width};
 use table::line::{end, expecting, getting, judge, put_codes, put_number, put_text, start_list};
 
 // What a call answers, or has to: the refusal's number, whether there is a number of present codes and which, and whether there is a sum and which.
-#[derive(Drop)]
+#[derive(Clone, Copy)]
 pub struct Summed {
     pub refusal: u32,
     pub counted: bool,

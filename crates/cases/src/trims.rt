@@ -15,7 +15,7 @@ const PI: u32 = 0x40490FDB;
 const PI_DOUBLE: u64 = 0x400921FB54442D18;
 
 // Where the exact value went, from one pattern to another of the same sign.
-#[derive(Drop)]
+#[derive(Clone, Copy)]
 pub enum Way {
     Up,
     Down,
@@ -221,7 +221,7 @@ pub fn same_singles(a: [u32; 4], b: [u32; 4]) -> bool {
 }
 
 // What an array holds after a call, and whether the call was refused.
-#[derive(Drop)]
+#[derive(Clone, Copy)]
 pub struct AfterCall {
     pub readings: [u32; 4],
     pub refused: bool,

@@ -1,5 +1,7 @@
 // The codes of a layer with two different values or more, exact whatever the exponents, and the least step that holds its span: all in words of 64 bits. Internal:
 // the call open to users is packing's.
+#![tactic(auto)]
+
 ghost use Rattle.std.specs.Prelude.{◌≡◌, ◌+◌, ◌-◌, ◌*◌, ◌/◌, ◌^◌, ◌<◌, ◌≤◌, min, max, ◌≢◌, map, length, nat_le};
 ghost use Rattle.meaning.specs.Readings.{magnitude, sign, pattern, infinity, spacing_exp, size, position};
 ghost use Rattle.meaning.specs.Methods.{nearest};
@@ -7,14 +9,14 @@ ghost use Rattle.meaning.specs.Layers.{least_from, code};
 ghost use Rattle.codes.specs.Cut.{AllReady, CanCode, cut_of, reading_of, base_of, bump, round_word, flag_of, layer_by, code_by};
 
 // A signed size in whole units, rounded down, modulo 2^64, and whether something was lost.
-#[derive(Drop)]
+#[derive(Clone, Copy)]
 pub struct Cut {
     pub word: u64,
     pub lost: u64,
 }
 
 // What the codes of a layer share: its reference and exponent, and the opposite of the reference, cut.
-#[derive(Drop)]
+#[derive(Clone, Copy)]
 pub struct Base {
     pub reference: u32,
     pub exponent: u32,

@@ -1,5 +1,7 @@
 // How a code becomes a double: the code as a double, times its layer's step, plus the layer's reference, so that only the addition rounds. One code, and one layer.
 // Internal: the call open to users is unpacking's.
+#![tactic(auto)]
+
 ghost use Rattle.std.specs.Prelude.{◌≡◌, true, map, ◌^◌, ◌≤◌, length};
 ghost use Rattle.std.specs.Float.{binary32};
 ghost use Rattle.std.specs.Float.Ieee.{to_bits};
@@ -8,7 +10,7 @@ ghost use Rattle.meaning.specs.Questions.{exponent_in_range};
 ghost use Rattle.decoding.specs.Floats.{finite_float, two_to, unpacked, Finite, decoded};
 
 // A layer's reference and step as floats, which travel together, and the code that means missing in its width, as a double too.
-#[derive(Drop)]
+#[derive(Clone, Copy)]
 pub struct LayerFloats {
     pub reference: f32,
     pub step: f64,

@@ -1,5 +1,7 @@
 // Method 6 of document 01, digits, for arrays of singles: two tables, made once from the powers of ten. A single's exponent field leaves two decades: one table holds
 // for each field the limit where the second begins, the other the bits that the method changes in each of the two. Internal: the calls open to users are those of `trim`.
+#![tactic(auto)]
+
 ghost use Rattle.std.specs.Prelude.{◌≡◌, ◌-◌, ◌/◌, ◌%◌, ◌^◌, ◌<◌, ◌≤◌};
 ghost use Rattle.powers.specs.Table.{powers};
 ghost use Rattle.digit_tables.specs.Fields.{field_place, least_single, field_limit, field_tail, Limits, Masks};

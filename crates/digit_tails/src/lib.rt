@@ -1,5 +1,7 @@
 // Method 6 of document 01, digits: how many last bits of a reading the method changes. A table of the powers of ten gives the decade of the reading's size;
 // the step, a power of two, follows from the decade, and the tail is what the step has above the reading's spacing. Internal: the calls open to users are those of `trim`.
+#![tactic(auto)]
+
 ghost use Rattle.std.specs.Prelude.{◌≡◌, ◌+◌, ◌-◌, ◌*◌, ◌^◌, ◌<◌, ◌≤◌};
 ghost use Rattle.meaning.specs.Readings.{size, least_exp};
 ghost use Rattle.meaning.specs.Methods.{digits, decade, new_magnitude, halfshaved};

@@ -1,5 +1,7 @@
 // One double: the pattern that is left of it and what it counts for, by each method. Everything is computed first and chosen last, so that a loop over these functions
 // has no branch on the data. Internal: the calls open to users are those of `trim`.
+#![tactic(auto)]
+
 ghost use Rattle.std.specs.Prelude.{◌≡◌, ◌-◌, ◌*◌, ◌/◌, ◌^◌, ◌<◌, ◌≤◌, if◌then◌else◌, nat_eq, nat_lt};
 ghost use Rattle.meaning.specs.Readings.{infinity};
 ghost use Rattle.meaning.specs.Methods.{halfshaved, round, absolute, digits};
@@ -10,7 +12,7 @@ ghost use Rattle.double.specs.Left.{settled_of, constants_of};
 
 // What is left of a double, and numbers of 0 or 1: whether it is changed, whether it or its result is the mark, whether it is clipped, whether it is missing, whether
 // its exact value rose.
-#[derive(Drop)]
+#[derive(Clone, Copy)]
 pub struct Double {
     pub pattern: u64,
     pub changed: u64,
@@ -75,7 +77,7 @@ pub fn below_double(m: u64, yes: u64, no: u64) -> u64
 }
 
 // What methods 0 to 4 need of a tail, worked out once for an array: how many bits it has, all of them ones, and its top bit.
-#[derive(Drop)]
+#[derive(Clone, Copy)]
 pub struct Tail {
     pub bits: u32,
     pub ones: u64,

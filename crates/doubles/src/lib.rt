@@ -1,4 +1,6 @@
 // Trimming an array of doubles in place: each method's loop but grooming's. Internal: the calls open to users are those of `trim`.
+#![tactic(auto)]
+
 ghost use Rattle.std.specs.Prelude.{◌≡◌, ◌≢◌, ◌-◌, ◌≤◌, length};
 ghost use Rattle.meaning.specs.Methods.{round, absolute, digits, turn_after};
 ghost use Rattle.asking.specs.Asked.{method_by};
@@ -124,7 +126,7 @@ fn step_doubles(readings: &mut [u64], q: u64, mark: u64) -> loops::Totals
 // ---- any method, by what is worked out once for an array
 
 // A trim as the loops get it: the method's number, its natural setting, and its tail.
-#[derive(Drop)]
+#[derive(Clone, Copy)]
 pub struct Job {
     pub method: u32,
     pub n: u32,

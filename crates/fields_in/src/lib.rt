@@ -1,6 +1,8 @@
 // The fields of a line of trimlist's text, read at places of slices, byte by byte: a pattern, a word or a name, a setting, and the byte that follows a field.
 // A reader answers what stands from a place on, or that it doesn't have the form.
 // Internal: `text_in` reads whole lines with them. Which method a word names is in `method_word`.
+#![tactic(auto)]
+
 ghost use Rattle.std.specs.Prelude.{◌≡◌, [], ◌∷◌, ◌≤◌, length, drop};
 ghost use Rattle.form.specs.Form.{is_letter, is_digit};
 ghost use Rattle.form.specs.Parse.{digit_of, read_pattern, run_of, skip, ending};
@@ -18,7 +20,7 @@ pub fn digit(b: u8) -> u32
 }
 
 // A pattern, or none.
-#[derive(Drop)]
+#[derive(Clone, Copy)]
 pub enum Pattern {
     At(u32),
     Bad,
@@ -88,7 +90,7 @@ pub fn digits_at(s: &[u8], at: usize) -> usize
 }
 
 // A number below 10000 and the next place, or none.
-#[derive(Drop)]
+#[derive(Clone, Copy)]
 pub enum Number {
     Value { value: u32, next: usize },
     NoNumber,
@@ -117,7 +119,7 @@ pub fn number_at(s: &[u8], at: usize) -> Number
 }
 
 // A setting and the next place, or none.
-#[derive(Drop)]
+#[derive(Clone, Copy)]
 pub enum Setting {
     Is { value: i32, next: usize },
     NoSetting,

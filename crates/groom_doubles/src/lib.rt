@@ -1,6 +1,8 @@
 // Grooming an array of doubles in place, by turns. Who takes a turn, and whether an even or odd number did before, is found for a whole block first, so that no reading waits for the one
 // before it and LLVM can work on two at once. A block is read as up to 32 rows of 512 doubles. `turns` has a word for each column of them, in which each row has a bit:
 // first whether the row's reading there takes a turn, then whether an odd number of readings before it do. Internal: the calls open to users are those of `trim`.
+#![tactic(auto)]
+
 ghost use Rattle.std.specs.Prelude.{◌≡◌, cond, ℕ, suc, ◌^◌, ◌≤◌, eqb, length, get_or};
 ghost use Rattle.std.specs.Int.Bits.{bit_and, bit_xor};
 ghost use Rattle.reading.specs.Left.{settled_tail, takes};
@@ -104,7 +106,7 @@ fn groom_row(
 }
 
 // The sums over a part of an array, and what the turn after it puts into the tail, nothing or all ones.
-#[derive(Drop)]
+#[derive(Clone, Copy)]
 pub struct Part {
     pub sums: loops::Totals,
     pub add: u64,

@@ -1,5 +1,7 @@
 // Lists of trims over one array with one mark, and the packing that may follow, as demand 3 speaks of them. Call i is methods[i] with settings[i], and the list is the
 // pairs that both slices have. Internal: they show that the demand holds of calls as they run.
+#![tactic(auto)]
+
 ghost use Rattle.std.specs.Prelude.{◌≡◌, map, min};
 ghost use Rattle.std.specs.Float.{binary32};
 ghost use Rattle.std.specs.Float.Ieee.{to_bits};

@@ -1,4 +1,6 @@
 // What a layer's width says of its codes: the steps that they can take, and the code that means missing. Internal: the calls open to users ask that a width is 2 to 16.
+#![tactic(auto)]
+
 ghost use Rattle.std.specs.Prelude.{◌≡◌, ◌≤◌};
 ghost use Rattle.meaning.specs.Layers.{missing_code, last_code};
 

@@ -1,4 +1,6 @@
 // How one layer of singles is packed: its reference, its step, and a code of its width for each reading. Internal: the call open to users is packing's.
+#![tactic(auto)]
+
 ghost use Rattle.std.specs.Prelude.{◌≡◌, map, ◌≤◌, length};
 ghost use Rattle.std.proofs.Math.IntN.{sub_ℕ};
 ghost use Rattle.std.specs.Float.{binary32};
@@ -9,7 +11,7 @@ ghost use Rattle.summary.specs.Summaries.{Packable};
 ghost use Rattle.layering.specs.Layering.{flat_code, One, PackedAs};
 
 // What is stored of a layer beside its width and its codes.
-#[derive(Drop)]
+#[derive(Clone, Copy)]
 pub struct LayerRecord {
     pub reference: f32,
     pub exponent: i32,

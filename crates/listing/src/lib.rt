@@ -1,4 +1,6 @@
 // A text in, a text out: all of trimlist but its input and output.
+#![tactic(auto)]
+
 ghost use Rattle.std.specs.Prelude.{◌≡◌, [], ◌+◌, ◌*◌, ◌≤◌, length};
 ghost use Rattle.meaning.specs.Calls.{leaving};
 ghost use Rattle.form.specs.Output.{counts_line, counts_lines, listed};

@@ -1,11 +1,13 @@
 // The sums that the loops over singles and those over doubles gather, a wider number, and the length of a part. Internal: the calls open to users are those of `trim`.
+#![tactic(auto)]
+
 ghost use Rattle.std.specs.Prelude.{◌≡◌, min};
 ghost use Rattle.single.specs.Left as S;
 ghost use Rattle.double.specs.Left as D;
 ghost use Rattle.loops.specs.Tallies.{none, plus, Few, sums_of, totals_of};
 
 // The sums over up to 65,536 singles, in counters as narrow as a single: LLVM can work on four readings at once.
-#[derive(Drop)]
+#[derive(Clone, Copy)]
 pub struct Sums {
     pub changed: u32,
     pub marked: u32,
@@ -45,7 +47,7 @@ impl Sums {
 
 // The sums over a whole array: places changed, places where the reading or its result is the mark, places clipped, places missing, places where the
 // exact value rose.
-#[derive(Drop)]
+#[derive(Clone, Copy)]
 pub struct Totals {
     pub changed: u64,
     pub marked: u64,

@@ -1,5 +1,7 @@
 // Which method a word of trimlist's text names: its bytes are compared with the seven methods' words.
 // Internal: `listing` asks for the method with it.
+#![tactic(auto)]
+
 ghost use Rattle.std.specs.Prelude.{◌≡◌, ◌+◌, ◌≤◌, length, take, drop};
 ghost use Rattle.form.specs.Output.{same_word, method_number};
 

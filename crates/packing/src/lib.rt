@@ -1,11 +1,13 @@
 // Packing: an array of singles cut into layers, each with a width, a reference, a step and a code of that width for each reading. The questions first, which are in
 // `asking_layers` and `asking_readings`, then all layers, which are in `all_layers`.
+#![tactic(auto)]
+
 ghost use Rattle.std.specs.Prelude.{◌≡◌, map};
 ghost use Rattle.std.specs.Float.{binary32};
 ghost use Rattle.std.specs.Float.Ieee.{to_bits};
 ghost use Rattle.packing.specs.Answers.{answer_of, packed};
 
-#[derive(Drop)]
+#[derive(Clone, Copy)]
 pub enum Packed {
     Done,
     Refused(u32),

@@ -1,5 +1,7 @@
 // Trimming readings in byte planes: block by block they are read into an array, trimmed there by the loops over arrays, and written back. What grooming's next turn does goes on from
 // block to block. Internal: the calls open to users are those of `planes`.
+#![tactic(auto)]
+
 ghost use Rattle.std.specs.Prelude.{◌≡◌, ◌*◌, ◌≤◌, length};
 ghost use Rattle.meaning.specs.Methods.{turn_after};
 ghost use Rattle.meaning.specs.Planes as P;

@@ -1,4 +1,6 @@
 // Byte planes: the lowest bytes of all readings stand together, then all second bytes, and so on. Conversions of an array to its planes and back, and trimming of readings in planes.
+#![tactic(auto)]
+
 ghost use Rattle.std.specs.Prelude.{◌≡◌, ◌≤◌};
 ghost use Rattle.meaning.specs.Questions.{accepted};
 ghost use Rattle.meaning.specs.Planes.{planes_fit, to_planes, from_planes, trim_planes_singles, trim_planes_doubles};
@@ -7,7 +9,7 @@ ghost use Rattle.trim.specs.Answers as trim;
 ghost use Rattle.planes.specs.Answers.{answer_of};
 
 // The answer of a conversion: done, or the refusal's number.
-#[derive(Drop)]
+#[derive(Clone, Copy)]
 pub enum Converted {
     Done,
     Refused(u32),

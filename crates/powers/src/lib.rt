@@ -1,5 +1,7 @@
 // The powers of ten as doubles: a table of the smallest double that is not below each. By it method 6 of document 01, digits, finds a reading's decade.
 // Internal: the calls open to users are those of `trim`.
+#![tactic(auto)]
+
 ghost use Rattle.std.specs.Prelude.{◌+◌, ◌-◌, ◌*◌, ◌^◌, ◌<◌, ◌≤◌};
 ghost use Rattle.meaning.specs.Readings.{size, least_exp};
 

@@ -1,4 +1,6 @@
 // The codes of a layer by doubles, where that is exact, and else by words of 64 bits. Internal: the call open to users is packing's.
+#![tactic(auto)]
+
 ghost use Rattle.std.specs.Prelude.{◌≡◌, map, ◌≢◌, ◌+◌, ◌-◌, ◌*◌, ◌^◌, ◌<◌, ◌≤◌, length};
 ghost use Rattle.meaning.specs.Readings.{magnitude, infinity, size, position};
 ghost use Rattle.meaning.specs.Layers.{last_code, code};
@@ -6,7 +8,7 @@ ghost use Rattle.codes.specs.Cut.{AllReady, CanCode, layer_by, code_by};
 ghost use Rattle.quick.specs.Coarse.{Coarse, AllCoarse, AllHeld, finest, lift_of};
 
 // What the codes of a layer share: its reference as a pattern and as a double, and 2^52 steps as a double.
-#[derive(Drop)]
+#[derive(Clone, Copy)]
 pub struct Lift {
     pub reference: u32,
     pub low: f64,

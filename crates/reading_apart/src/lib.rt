@@ -2,6 +2,8 @@
 // magnitude's spacing: whole numbers for it and for the limit, and for the smaller one a fraction, which is rounded to the side that changes no answer. Both the limit
 // and that fraction's denominator are cut to 2^(bits + 3), since what is above it gives the same answer.
 // Internal: the calls open to users are those of `beyond`.
+#![tactic(auto)]
+
 ghost use Rattle.std.specs.Prelude.{◌≡◌, cond, ℕ, min, max, ◌+◌, ◌-◌, ◌*◌, ◌^◌, ◌<◌, ◌≤◌, ltb};
 ghost use Rattle.meaning.specs.Readings.{size, spacing_exp, position, distance};
 ghost use Rattle.reading_apart.specs.Words.{cut_limit, significand, Finite};

@@ -8,6 +8,8 @@
 // nothing is less than 0. tests/settings.c tries all of these.
 //
 // Internal: the calls open to users are those of `beyond`.
+#![tactic(auto)]
+
 ghost use Rattle.std.specs.Prelude.{◌≡◌, true, false, ℕ, ◌-◌, ◌^◌, ◌<◌, ◌≤◌};
 ghost use Rattle.meaning.specs.Readings.{size, distance};
 ghost use Rattle.meaning.specs.Methods.{trimmable};

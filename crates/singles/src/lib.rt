@@ -1,5 +1,7 @@
 // Trimming an array of singles in place: each method's loop but grooming's, and the loader's one reading. The loops run over parts of an array, so that 32-bit counters
 // serve and LLVM can work on four readings at once. Internal: the calls open to users are those of `trim`.
+#![tactic(auto)]
+
 ghost use Rattle.std.specs.Prelude.{◌≡◌, ◌≢◌, true, ◌-◌, ◌<◌, ◌≤◌, length};
 ghost use Rattle.meaning.specs.Methods.{round, absolute, digits, turn_after};
 ghost use Rattle.powers.specs.Table.{powers};
@@ -192,7 +194,7 @@ fn step_singles(readings: &mut [u32], q: u32, mark: u32) -> loops::Sums
 // ---- any method, by what is worked out once for an array
 
 // A trim as the loops get it: the method's number, its natural setting, and its tail.
-#[derive(Drop)]
+#[derive(Clone, Copy)]
 pub struct Job {
     pub method: u32,
     pub n: u32,

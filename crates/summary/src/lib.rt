@@ -1,11 +1,13 @@
 // A layer's summary: nothing present, one value throughout, or a smallest and a largest value. Internal: the call open to users is packing's.
+#![tactic(auto)]
+
 ghost use Rattle.std.specs.Prelude.{◌≡◌, cond, min, max, ◌≤◌, eqb};
 ghost use Rattle.meaning.specs.Layers.{summary};
 ghost use Rattle.summary.specs.Keys.{key, unkey, lowest, highest, between, Key};
 ghost use Rattle.summary.specs.Summaries.{summary_of, Packable};
 
 // Each value is held as a single. A zero is +0.
-#[derive(Drop)]
+#[derive(Clone, Copy)]
 pub enum Summary {
     Nothing,
     Flat(f32),
@@ -13,7 +15,7 @@ pub enum Summary {
 }
 
 // The smallest and the largest key of the present readings; the smallest is above the largest where none is present.
-#[derive(Drop)]
+#[derive(Clone, Copy)]
 pub struct Ends {
     pub low: u32,
     pub high: u32,

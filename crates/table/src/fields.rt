@@ -20,7 +20,7 @@ pub const REFUSED: u32 = 4;
 pub const CONTRADICTORY: u32 = 5;
 
 // A part of a text, and where the next one begins.
-#[derive(Drop)]
+#[derive(Clone, Copy)]
 pub struct Span {
     pub from: usize,
     pub to: usize,

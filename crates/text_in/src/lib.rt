@@ -1,6 +1,8 @@
 // The text of trimlist, read line by line. Its values go to a work area of 8 parts of 512, one for each series. The fields of a line are read by `fields_in`.
 // A reader answers what stands from a place on, with the next place, or that it doesn't have the form.
 // Internal: `listing` is made of them, and of the writers in `text_out`.
+#![tactic(auto)]
+
 ghost use Rattle.std.specs.Prelude.{◌≡◌, ◌<◌, ◌≤◌, length};
 ghost use Rattle.form.specs.Form.{header};
 ghost use Rattle.form.specs.Parse.{skip};
@@ -27,7 +29,7 @@ pub fn header_at(s: &[u8]) -> bool
 }
 
 // The job values, the word by its number of letters, and the next place; or none.
-#[derive(Drop)]
+#[derive(Clone, Copy)]
 pub enum Start {
     Job {
         letters: usize,
@@ -85,7 +87,7 @@ pub fn start_at(s: &[u8], at: usize) -> Start
 }
 
 // How many names there are, and the next place; or none.
-#[derive(Drop)]
+#[derive(Clone, Copy)]
 pub enum Names {
     Series { count: usize, next: usize },
     BadNames,
@@ -121,7 +123,7 @@ pub fn names_at(s: &[u8], at: usize) -> Names
 }
 
 // The place after a line of values, or none.
-#[derive(Drop)]
+#[derive(Clone, Copy)]
 pub enum Row {
     Next(usize),
     BadRow,
@@ -158,7 +160,7 @@ pub fn row_at(s: &[u8], at: usize, n: usize, row: usize, work: &mut [u32]) -> Ro
 }
 
 // How many lines of values there are, or that the rest isn't such lines.
-#[derive(Drop)]
+#[derive(Clone, Copy)]
 pub enum Rows {
     Lines(usize),
     BadRows,
@@ -191,7 +193,7 @@ pub fn rows_at(s: &[u8], at: usize, n: usize, work: &mut [u32]) -> Rows
 
 // What a text of the form holds: the letters of its method word, its setting and mark, the places of its names and of its first
 // line of values, how many series and lines there are; or that it doesn't have the form.
-#[derive(Drop)]
+#[derive(Clone, Copy)]
 pub enum Reading {
     Good {
         letters: usize,

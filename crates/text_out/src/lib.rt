@@ -1,6 +1,8 @@
 // The text of trimlist, written at places of slices. A writer lays bytes over a slice from a place on. Lines of values come from a work area of 8 parts of 512, one for
 // each series, as `text_in` fills it.
 // Internal: `listing` is made of them, and of the readers in `text_in`.
+#![tactic(auto)]
+
 ghost use Rattle.std.specs.Prelude.{◌≡◌, map, ◌+◌, ◌*◌, ◌<◌, ◌≤◌, length};
 ghost use Rattle.meaning.specs.Questions.{refused};
 ghost use Rattle.form.specs.Form.{All, hex_char, hex_text, line, pattern, value_lines};

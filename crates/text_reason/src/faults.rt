@@ -2,7 +2,7 @@
 ghost use Rattle.std.specs.Prelude.{◌≤◌, length};
 
 // What can be wrong, in the order in which a line is looked at.
-#[derive(Drop)]
+#[derive(Clone, Copy)]
 pub enum Reason {
     Nothing,
     Empty,
@@ -32,7 +32,7 @@ pub enum Reason {
 }
 
 // A fault with its line, the field that has it, and two numbers that some reasons speak of: how many fields there are, or which one it is, and how many names.
-#[derive(Drop)]
+#[derive(Clone, Copy)]
 pub struct Fault {
     pub reason: Reason,
     pub line: usize,

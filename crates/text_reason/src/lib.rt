@@ -1,5 +1,7 @@
 // Why a text was refused, in words for people: the place and a plain reason, as one line on standard error.
 // Internal: `trimlist` calls it after a refusal. It changes nothing, and no answer hangs on it: whether a text has the form is `listing`'s to say.
+#![tactic(auto)]
+
 mod faults;
 mod words;
 

@@ -1,11 +1,13 @@
 // Totals of one packed layer: the number of its present codes, and their sum, gathered in four lanes. The questions first, which are in `asking_layers` and `asking_codes`.
+#![tactic(auto)]
+
 ghost use Rattle.std.specs.Prelude.{◌≡◌, ◌+◌, ◌≤◌, ◌<◌, length};
 ghost use Rattle.meaning.specs.Totals.{in_order_sum, one_present, if_present, totals};
 ghost use Rattle.totals.specs.Answers.{answer_of};
 ghost use Rattle.totals.specs.Gathered.{value_at, Room, added, added_at, joined_of, Gathered};
 
 // The answer: how many codes are present, and their sum; or the refusal's number.
-#[derive(Drop)]
+#[derive(Clone, Copy)]
 pub enum Total {
     Present { count: u32, sum: u32 },
     Refused(u32),
@@ -61,7 +63,7 @@ fn code_at(codes: &[u16], i: usize, missing: u16) -> u16
 }
 
 // Four sums: lane a takes the places 0, 4, 8 .., lane b the places 1, 5, 9 .., and so on.
-#[derive(Drop)]
+#[derive(Clone, Copy)]
 pub struct Lanes {
     pub a: u32,
     pub b: u32,

@@ -1,4 +1,6 @@
 // Trims of arrays and of one single: the questions first, then the method's loop, then the answer.
+#![tactic(auto)]
+
 ghost use Rattle.std.specs.Prelude.{◌≡◌, ◌+◌, ◌-◌, ◌*◌, ◌^◌, ◌≤◌};
 ghost use Rattle.meaning.specs.Questions.{accepted};
 ghost use Rattle.meaning.specs.Calls.{trim_singles, trim_doubles, loader};
@@ -6,7 +8,7 @@ ghost use Rattle.loops.specs.Tallies.{totals_of};
 ghost use Rattle.trim.specs.Answers.{answer_of, counts_of};
 
 // What a trim answers: the places changed, spared, clipped and missing, and those whose exact value rose and fell; or the refusal's number.
-#[derive(Drop)]
+#[derive(Clone, Copy)]
 pub enum Answer {
     Counts {
         changed: u64,

@@ -1,11 +1,13 @@
 // trimlist: reads a text from standard input, trims its series as its job says, and writes the answer to standard output. `listing` does the work; here are the
 // input and the output, of which no contract can tell.
+#![tactic(auto)]
+
 ghost use Rattle.std.specs.Prelude.{◌+◌, ◌≤◌, length};
 
 use libc::{EINTR, STDERR_FILENO, STDIN_FILENO, STDOUT_FILENO};
 
 // What one read brought: so many bytes, or the input's end, or that it can't be read. A read that a signal interrupted brings none of these.
-#[derive(Drop)]
+#[derive(Clone, Copy)]
 pub struct Came {
     pub bytes: usize,
     pub ended: bool,
@@ -34,7 +36,7 @@ fn read_from(text: &mut [u8], from: usize) -> Came
 }
 
 // What was read of the input: so many bytes, all that there are or all that have room; or what there was before a read failed.
-#[derive(Drop)]
+#[derive(Clone, Copy)]
 pub struct Input {
     pub bytes: usize,
     pub failed: bool,

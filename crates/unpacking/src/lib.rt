@@ -1,5 +1,7 @@
 // Unpacking layers of codes into doubles: the questions first, which are in `asking_layers`, `asking_values` and `asking_codes`, then layer by layer. How one layer's
 // codes become doubles is in `decoding`.
+#![tactic(auto)]
+
 ghost use Rattle.std.specs.Prelude.{◌≡◌, map, length};
 ghost use Rattle.std.specs.Float.{binary32};
 ghost use Rattle.std.specs.Float.Ieee.{to_bits};
@@ -9,7 +11,7 @@ ghost use Rattle.unpacking.specs.Answers.{answer_of};
 ghost use Rattle.unpacking.specs.Known.{Known};
 
 // The answer of an unpacking: done, or the refusal's number.
-#[derive(Drop)]
+#[derive(Clone, Copy)]
 pub enum Unpacked {
     Done,
     Refused(u32),
