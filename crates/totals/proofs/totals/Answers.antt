@@ -21,7 +21,7 @@ few-codes : (c : goal.After-missing_of-missing) → length c.args.codes.now ≤ 
 few-codes c =
     let l = c in
     let n = length l.args.codes.now in
-    leb-true n 65536 (and_second (leb 1 n) (leb n 65536) (sym l.length_in_range.ensures ∙ not-false _ l.if-not-length_in_range.false))
+    leb-true n 65536 (and_second (leb 1 n) (leb n 65536) (sym l.length_in_range.ensures ∙ l.if-not-length_in_range.false))
 
 -- the lanes joined are the sum in order
 sum_is : (c : goal.After-gather-lanes)
@@ -34,25 +34,25 @@ sum_is c =
 
 pub returns-then-not-length_in_range : goal.returns-then-not-length_in_range
 unfolding answer_of
-returns-then-not-length_in_range c = three _ _ (sym c.length_in_range.ensures ∙ not-true _ c.if-not-length_in_range.true)
+returns-then-not-length_in_range c = three _ _ (sym c.length_in_range.ensures ∙ c.if-not-length_in_range.true)
 
 pub returns-then-not-width_in_range : goal.returns-then-not-width_in_range
 unfolding answer_of
 returns-then-not-width_in_range c =
     let l = c in
-    eleven _ _ (sym l.length_in_range.ensures ∙ not-false _ l.if-not-length_in_range.false) (sym c.width_in_range.ensures ∙ not-true _ c.if-not-width_in_range.true)
+    eleven _ _ (sym l.length_in_range.ensures ∙ l.if-not-length_in_range.false) (sym c.width_in_range.ensures ∙ c.if-not-width_in_range.true)
 
 pub missing_of-missing-requires : goal.missing_of-missing-requires
 missing_of-missing-requires c =
     let w = c.args.width in
-    leb-true w 16 (and_second (leb 2 w) (leb w 16) (sym c.width_in_range.ensures ∙ not-false _ c.if-not-width_in_range.false))
+    leb-true w 16 (and_second (leb 2 w) (leb w 16) (sym c.width_in_range.ensures ∙ c.if-not-width_in_range.false))
 
 pub returns-then-missing-bits_of : goal.returns-then-missing-bits_of
 unfolding answer_of
 returns-then-missing-bits_of c =
     let w = c in
     let l = w in
-    twelve _ _ (sym l.length_in_range.ensures ∙ not-false _ l.if-not-length_in_range.false) (sym w.width_in_range.ensures ∙ not-false _ w.if-not-width_in_range.false) _ c.bits_of.ensures
+    twelve _ _ (sym l.length_in_range.ensures ∙ l.if-not-length_in_range.false) (sym w.width_in_range.ensures ∙ w.if-not-width_in_range.false) _ c.bits_of.ensures
     (omega (arith, c.if-missing-bits_of.true, c.missing_of-missing.ensures))
 
 pub count_present-count-requires : goal.count_present-count-requires
@@ -80,5 +80,5 @@ returns c =
     let l = w in
     let m = b.missing_of-missing.ensures in
     ap accepted (rw (c.count_present-count.ensures, c.join_lanes-sum.ensures, sum_is c.before, m) refl)
-    ∙ done _ _ (sym l.length_in_range.ensures ∙ not-false _ l.if-not-length_in_range.false) (sym w.width_in_range.ensures ∙ not-false _ w.if-not-width_in_range.false) _ b.bits_of.ensures
+    ∙ done _ _ (sym l.length_in_range.ensures ∙ l.if-not-length_in_range.false) (sym w.width_in_range.ensures ∙ w.if-not-width_in_range.false) _ b.bits_of.ensures
     (omega (arith, b.if-missing-bits_of.false, m))

@@ -59,7 +59,7 @@ pub unpack_layer-requires : goal.unpack_layer-requires
 unpack_layer-requires c =
     let at = c.before.before.before.before.before.before.before.before in
     let inv = at.loop-i.invariant in (
-      record { reference = reference_finite _ _ _ _ _ _ _ _ _ _ inv (omega arith); step = ap finite_float c.step_of_lem.ensures },
+      record { reference = reference_finite _ _ _ _ _ _ _ _ _ _ inv (omega arith); step = ap finite_float c.step_of.ensures },
       simp (length-take, length-drop) (omega (arith, room at, as_many _ _ _ _ _ _ _ _ _ _ inv)),
     )
 
@@ -72,7 +72,7 @@ loop-i-preserved c =
     let single : Singles s.args.references.now = at.shared_slice_known-3-1.given in
     let small : Below 65536 s.args.codes.now = λ k. (at.shared_slice_known-2-1.given k).fits in
     let m = c in
-    turn _ _ _ _ _ _ _ _ _ _ at.loop-i.invariant (omega arith) small _ (single _) refl (m.step_of_lem.ensures ∙ ap two_to (to_z-of_z fit)) (ap (λ (n : ℕ). of_int binary64 (pos n)) m.missing_of-missing.ensures) _
+    turn _ _ _ _ _ _ _ _ _ _ at.loop-i.invariant (omega arith) small _ (single _) refl (m.step_of.ensures ∙ ap two_to (to_z-of_z fit)) (ap (λ (n : ℕ). of_int binary64 (pos n)) m.missing_of-missing.ensures) _
     c.unpack_layer.ensures
 
 pub shape_of-readings : goal.shape_of-readings
