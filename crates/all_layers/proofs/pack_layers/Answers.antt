@@ -1,6 +1,7 @@
 use native.Mathlib.Omega.{arith}
 use borrow.Author.Rules.{rules}
 use mir.Facts.{to_z-of_z}
+use mir.Syntax.{w32}
 use Prim.Native.Nat.{◌+◌, ◌-◌, ◌≤◌}
 use lib.ListN.{length, length-take, length-drop}
 use Rattle.all_layers.proofs.Turns.{Turn, start, part_packable, room, turn, codes_end, references_end, exponents_end}
@@ -35,14 +36,14 @@ pack_layer-layer-requires c =
     let r = room _ _ _ _ _ _ _ _ _ _ _ _ i (search rules) in
     record {
       width = i.fit.in_range c.loop-i.i (omega (arith, i.fit.one_width, i.fit.one_reference));
-      readings_len = rw (length-take, length-drop, length-take, length-drop) (omega (arith, r, i.fit.as_many, i.codes_long));
+      readings_len = simp (length-take, length-drop) (omega (arith, r, i.fit.as_many, i.codes_long));
       packable = part_packable _ _ from (from + s.run - from) (omega (arith, r)) c.requires.packable;
     }
 
 pub loop-i-preserved : goal.loop-i-preserved
 loop-i-preserved c =
     let r = c.pack_layer-layer in
-    turn _ _ _ _ _ _ _ _ _ _ _ _ c.loop-i.invariant (search rules) r.new.out r.result _ (to_z-of_z (search rules)) r.ensures.content r.ensures.layer
+    turn _ _ _ _ _ _ _ _ _ _ _ _ c.loop-i.invariant (search rules) r.new.out r.result _ (to_z-of_z {w = w32} {z = r.result.exponent} (search rules)) r.ensures.content r.ensures.layer
 
 pub returns : goal.returns
 returns c =
