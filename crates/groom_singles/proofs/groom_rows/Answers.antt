@@ -94,6 +94,7 @@ pub loop-a-smaller : goal.loop-a-smaller
 loop-a-smaller c = omega (arith, c.at_most-n.ensures)
 
 pub loop-a-preserved : goal.loop-a-preserved
+unfolding fill_at
 loop-a-preserved c =
     let s = c.args in
     let at = c.loop-a in
