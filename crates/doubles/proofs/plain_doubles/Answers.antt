@@ -7,10 +7,11 @@ use Rattle.meaning.specs.Methods.{absolute}
 use Rattle.reading.specs.Left.{settled_by}
 use Rattle.loops.proofs.Methods.{suits_tail, suits_keep, add_fits, by_tail, by_round, by_absolute, by_digits, over_all}
 use Rattle.doubles.proofs.plain_doubles.Goals as goal
+use Rattle.doubles.proofs.plain_doubles.Goals.{Else-job-eq4}
 
 -- By the method's number, each loop's outcome is the method's.
 -- what is left are methods 0 to 3
-low : (c : goal.Else-job-eq4) → c.args.job.method < 4
+low : (c : Else-job-eq4) → c.args.job.method < 4
 low c =
     let s = c in
     let six = c.if-job-eq6.false in
@@ -51,6 +52,6 @@ tail_doubles-requires c =
 pub returns : goal.returns
 returns c =
     let s = c in
-    let m = low c.before.before.before.before.before in let it = over_all s.args.readings.now _ _
+    let m = low (goal.at.returns c).Else-job-eq4 in let it = over_all s.args.readings.now _ _
     (by_tail 52 11 s.args.mark s.args.job.method s.args.job.n (suits_keep s.requires.0 (omega (arith, m))) m s.requires.1 c.add_double-add.ensures)
     (c.tail_doubles.ensures.sums, c.tail_doubles.ensures.content) in record { sums = it.0; content = it.1; }

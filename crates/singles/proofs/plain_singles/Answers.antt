@@ -5,10 +5,11 @@ use Prim.Native.Nat.{ℕ, ◌≤◌, ◌<◌}
 use native.Mathlib.Omega.{arith}
 use Rattle.loops.proofs.Methods.{suits_tail, suits_keep, add_fits, by_tail, by_round, by_absolute, by_digits, over_all}
 use Rattle.singles.proofs.plain_singles.Goals as goal
+use Rattle.singles.proofs.plain_singles.Goals.{Else-job-eq4}
 
 -- By the method's number, each loop's outcome is the method's.
 -- what is left are methods 0 to 3
-low : (c : goal.Else-job-eq4) → c.args.job.method < 4
+low : (c : Else-job-eq4) → c.args.job.method < 4
 low c =
     let s = c in
     let six = c.if-job-eq6.false in
@@ -48,6 +49,6 @@ tail_singles-requires c =
 pub returns : goal.returns
 returns c =
     let s = c in
-    let m = low c.before.before.before.before.before in let it = over_all s.args.readings.now _ _
+    let m = low (goal.at.returns c).Else-job-eq4 in let it = over_all s.args.readings.now _ _
     (by_tail 23 8 s.args.mark s.args.job.method s.args.job.n (suits_keep s.requires.0 (omega (arith, m))) m s.requires.1 c.add_single-add.ensures)
     (c.tail_singles.ensures.sums, c.tail_singles.ensures.content) in record { sums = it.0; content = it.1; }
