@@ -38,4 +38,5 @@ pub loop-i-preserved : goal.loop-i-preserved
 loop-i-preserved c = step c.loop-i.invariant (omega arith) (is (goal.at.loop-i-preserved c).After-tail_double-one) c.plus-sums.ensures (add-one _)
 
 pub returns : goal.returns
-returns c = let it = end c.loop-i.invariant (omega arith) in record { sums = it.0; content = it.1; }
+returns c = let it = end c.loop-i.invariant (omega arith) in
+    record { sums = it.0; content = it.1; }
