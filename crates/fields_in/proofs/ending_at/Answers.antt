@@ -1,8 +1,7 @@
-use Prim.Native.Nat.{ℕ, ◌-◌}
+use Prim.Native.Nat.{ℕ}
 use mathlib.Core.Path.{ap, ◌∙◌}
 use mathlib.Core.List.{[], ◌∷◌}
-use lib.ListN.{take, drop}
-use borrow.Author.Rules.{rules}
+use lib.ListN.{drop}
 use Rattle.fields_in.proofs.Walk.{skip_ended, skip_yes, skip_no, ending_more}
 use Rattle.form.specs.Parse.{skip, ending}
 use Rattle.fields_in.proofs.ending_at.Goals as goal

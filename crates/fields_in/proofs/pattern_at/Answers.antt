@@ -1,8 +1,5 @@
-use Prim.Native.Nat.{◌-◌}
 use native.Mathlib.Omega.{arith}
-use lib.ListN.{take}
-use borrow.Author.Rules.{rules}
-use Rattle.fields_in.proofs.Walk.{HexTurn, hex_start, hex_room, hex_ended, hex_stopped, hex_turn, hex_done}
+use Rattle.fields_in.proofs.Walk.{hex_start, hex_room, hex_ended, hex_stopped, hex_turn, hex_done}
 use Rattle.fields_in.proofs.pattern_at.Goals as goal
 
 pub loop-i-init : goal.loop-i-init
