@@ -1,7 +1,4 @@
-use Prim.Native.Nat.{◌-◌}
-use lib.ListN.{length, take}
-use borrow.Author.Rules.{rules}
-use Rattle.text_out.proofs.Paste.{PutTurn, put_start, put_turn, put_done}
+use Rattle.text_out.proofs.Paste.{put_start, put_turn, put_done}
 use Rattle.text_out.proofs.put_pattern.Goals as goal
 
 pub loop-done-init : goal.loop-done-init
