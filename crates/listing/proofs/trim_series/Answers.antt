@@ -50,4 +50,4 @@ shape_of-counts c = let l = laid_long _ _ _ _ _ c.loop-j.invariant.laid in searc
 
 pub returns : goal.returns
 returns c =
-    let d = series_done _ _ _ _ _ _ _ _ _ _ _ c.loop-j.invariant (search rules) c.args.setting (to_z-of_z (search rules)) in record {work = d.0; answer = d.1; counts = d.2; short = d.3; }
+    let d = series_done _ _ _ _ _ _ _ _ _ _ _ c.loop-j.invariant (search rules) c.args.setting (to_z-of_z {w = w32} (search rules)) in record {work = d.0; answer = d.1; counts = d.2; short = d.3; }
