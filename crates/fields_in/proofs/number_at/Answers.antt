@@ -5,7 +5,8 @@ use Rattle.fields_in.proofs.number_at.Goals as goal
 
 pub returns-then-n-eq0 : goal.returns-then-n-eq0
 returns-then-n-eq0 c =
-    let a = c.args in record { s_value = number_none a.s.now a.at (sym c.digits_at-n.ensures ∙ c.if-n-eq0.true); number_small = tt }
+    let a = c.args in
+    record { s_value = number_none a.s.now a.at (sym c.digits_at-n.ensures ∙ c.if-n-eq0.true); number_small = tt }
 
 pub loop-i-init : goal.loop-i-init
 loop-i-init c = number_start _ _ _ c.requires c.digits_at-n.ensures
@@ -31,8 +32,7 @@ overflow_add-v-in-loop-i c =
 
 pub loop-i-preserved : goal.loop-i-preserved
 loop-i-preserved c =
-    let a = c in
-    number_turn _ _ _ _ _ a.loop-i.invariant c.loop-i-test.true
+    number_turn _ _ _ _ _ c.loop-i.invariant c.loop-i-test.true
 
 pub returns : goal.returns
 returns c =

@@ -24,7 +24,6 @@ loop-p-preserved c =
 
 pub returns-in-BadRow : goal.returns-in-BadRow
 returns-in-BadRow c =
-    let t = c.args.s.now in
     rows_bad _ _ _ _ _ _ _ c.loop-p.invariant c.loop-p-test.true (omega (arith, c.if-i-gt511.false)) (subst (RowRead c.args.s.now c.loop-p.p c.args.n c.loop-p.i c.loop-p.work c.row_at-r.new.work) c.in-BadRow.is c.row_at-r.ensures)
 
 pub returns : goal.returns

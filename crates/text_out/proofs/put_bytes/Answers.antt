@@ -9,4 +9,5 @@ loop-i-preserved c = copy_turn _ _ _ _ _ c.loop-i.invariant c.loop-i-test.true
 
 pub returns : goal.returns
 returns c =
-    let it = copy_done _ _ _ _ _ c.loop-i.invariant c.loop-i-test.false in record { value = it.0; out_after = it.1 }
+    let it = copy_done _ _ _ _ _ c.loop-i.invariant c.loop-i-test.false in
+    record { value = it.0; out_after = it.1 }

@@ -16,4 +16,5 @@ shape_of-out c = laid_long _ _ _ _ _ c.loop-i.invariant.laid
 
 pub returns : goal.returns
 returns c =
-    let it = counts_done _ _ _ _ _ _ c.loop-i.invariant c.loop-i-test.false in record { value = it.0; out_after = it.1 }
+    let it = counts_done _ _ _ _ _ _ c.loop-i.invariant c.loop-i-test.false in
+    record { value = it.0; out_after = it.1 }

@@ -89,4 +89,5 @@ shape_of-out c = c.loop-j.invariant.long
 
 pub returns : goal.returns
 returns c =
-    let it = line_done _ _ _ _ _ _ _ _ _ c.loop-j.invariant c.loop-j-test.false in record { value = it.0; out_after = it.1 }
+    let it = line_done _ _ _ _ _ _ _ _ _ c.loop-j.invariant c.loop-j-test.false in
+    record { value = it.0; out_after = it.1 }

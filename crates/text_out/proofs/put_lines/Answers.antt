@@ -21,4 +21,5 @@ shape_of-out c = laid_long _ _ _ _ _ c.loop-i.invariant.laid
 
 pub returns : goal.returns
 returns c =
-    let it = lines_done _ _ _ _ _ _ _ _ c.loop-i.invariant c.loop-i-test.false in record { value = it.0; out_after = it.1 }
+    let it = lines_done _ _ _ _ _ _ _ _ c.loop-i.invariant c.loop-i-test.false in
+    record { value = it.0; out_after = it.1 }

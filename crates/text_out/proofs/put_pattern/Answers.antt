@@ -6,8 +6,7 @@ loop-done-init c = put_start _ _ _ c.requires
 
 pub loop-done-preserved : goal.loop-done-preserved
 loop-done-preserved c =
-    let a = c in
-    put_turn _ _ _ _ _ _ _ a.requires a.loop-done.invariant c.loop-done-test.true c.hex_char-c.ensures
+    put_turn _ _ _ _ _ _ _ c.requires c.loop-done.invariant c.loop-done-test.true c.hex_char-c.ensures
 
 pub returns : goal.returns
 returns c = put_done _ _ _ _ _ _ c.loop-done.invariant c.loop-done-test.false
