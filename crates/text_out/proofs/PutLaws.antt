@@ -4,7 +4,7 @@ use native.Mathlib.Omega.{arith}
 use native.Mathlib.Nat.{sub-zero}
 use mathlib.Core.Path.{◌≡◌, refl, sym, ap, ◌∙◌}
 use mathlib.Core.List.{List, [], ◌∷◌, ◌++◌, map, append_assoc, append-nil}
-use lib.ListN.{length, take, drop, get_or, set, length-append, length-take}
+use lib.ListN.{length, take, drop, get_or, set, length-append}
 use lib.Seq.{take_at, drop_at, drop-drop, length-take-le}
 use Rattle.form.specs.Form.{line, after, pattern, hex_text}
 use Rattle.form.specs.Parse.{ending}

@@ -1,9 +1,5 @@
 use Prim.Native.Nat.{◌-◌}
-use native.Mathlib.Omega.{arith}
-use lib.ListN.{take}
-use borrow.Author.Rules.{rules}
-use borrow.Author.Tests.{le-leb, lt-leb}
-use Rattle.fields_in.proofs.Walk.{RunTurn, run_start, run_ended, run_stopped, run_turn, run_done}
+use Rattle.fields_in.proofs.Walk.{RunTurn}
 use Rattle.form.specs.Form.{is_letter}
 use Rattle.fields_in.proofs.letters_at.Given as goal
 

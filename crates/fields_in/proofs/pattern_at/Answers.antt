@@ -1,8 +1,5 @@
-use Prim.Native.Nat.{◌-◌}
 use native.Mathlib.Omega.{arith}
-use lib.ListN.{take}
-use borrow.Author.Rules.{rules}
-use Rattle.fields_in.proofs.Walk.{HexTurn, hex_start, hex_room, hex_ended, hex_stopped, hex_turn, hex_done}
+use Rattle.fields_in.proofs.Walk.{hex_start, hex_room, hex_ended, hex_stopped, hex_turn, hex_done}
 use Rattle.fields_in.proofs.pattern_at.Goals as goal
 
 pub loop-i-init : goal.loop-i-init
@@ -18,8 +15,7 @@ bounds-s-at c =
 
 pub returns-then-d-gt15 : goal.returns-then-d-gt15
 returns-then-d-gt15 c =
-    let a = c in
-    hex_stopped _ _ _ _ a.loop-i.invariant c.loop-i-test.true (omega (arith, a.requires)) _ c.digit-d.ensures c.if-d-gt15.true
+    hex_stopped _ _ _ _ c.loop-i.invariant c.loop-i-test.true (omega (arith, c.requires)) _ c.digit-d.ensures c.if-d-gt15.true
 
 pub overflow_mul-v : goal.overflow_mul-v
 overflow_mul-v c = omega (arith, hex_room _ _ _ _ c.loop-i.invariant c.loop-i-test.true)
@@ -29,8 +25,7 @@ overflow_add-v c = omega (arith, hex_room _ _ _ _ c.loop-i.invariant c.loop-i-te
 
 pub loop-i-preserved : goal.loop-i-preserved
 loop-i-preserved c =
-    let a = c in
-    hex_turn _ _ _ _ a.loop-i.invariant c.loop-i-test.true (omega (arith, a.requires)) _ c.digit-d.ensures c.if-d-gt15.false
+    hex_turn _ _ _ _ c.loop-i.invariant c.loop-i-test.true (omega (arith, c.requires)) _ c.digit-d.ensures c.if-d-gt15.false
 
 pub returns : goal.returns
 returns c = hex_done _ _ _ _ c.loop-i.invariant c.loop-i-test.false

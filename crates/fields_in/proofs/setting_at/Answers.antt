@@ -1,7 +1,4 @@
-use Prim.Native.Nat.{◌-◌}
 use mathlib.Core.Path.{ap, ◌∙◌, subst}
-use lib.ListN.{take, set}
-use borrow.Author.Rules.{rules}
 use Rattle.fields_in.proofs.Signs.{as_signed, minus_fits, setting_none, setting_minus, setting_minus_none, setting_plain, setting_plain_none}
 use Rattle.fields_in.specs.Fields.{NumberSmall, number_got}
 use Rattle.fields_in.proofs.setting_at.Goals as goal

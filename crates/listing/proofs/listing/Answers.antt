@@ -1,6 +1,7 @@
 use borrow.Author.Rules.{rules}
 use mathlib.Core.Path.{sym, ap, ◌∙◌}
 use mir.Facts.{to_z-of_z}
+use mir.Syntax.{w32}
 use lib.ListN.{length}
 use lib.Seq.{length-take-le}
 use Rattle.text_out.specs.Places.{paste}
@@ -15,13 +16,13 @@ method_of-method-requires c =
 pub put_refusal-requires : goal.put_refusal-requires
 put_refusal-requires c =
     let x = text_at _ _ _ _ _ _ _ _ _ _ c.read_text-read.ensures c.in-Good.is in
-    (refusal_small _ _ _ _ _ _ _ _ _ x _ c.method_of-method.ensures _ (to_z-of_z (search rules)) _ c.ask_single-asked.ensures.refusal, search rules)
+    (refusal_small _ _ _ _ _ _ _ _ _ x _ c.method_of-method.ensures _ (to_z-of_z {w = w32} (search rules)) _ c.ask_single-asked.ensures.refusal, search rules)
 
 pub returns-then-asked-ne0 : goal.returns-then-asked-ne0
 returns-then-asked-ne0 c =
     let x = text_at _ _ _ _ _ _ _ _ _ _ c.read_text-read.ensures c.in-Good.is in
-    let e = refused_listed _ _ _ _ _ _ _ _ _ x _ c.method_of-method.ensures _ (to_z-of_z (search rules)) _ c.ask_single-asked.ensures.refusal c.if-asked-ne0.true in
-    let r = (c.put_refusal.ensures.value, c.put_refusal.ensures.out_after) in record {answer = c.put_refusal.ensures.value ∙ ap length e; content = c.put_refusal.ensures.out_after ∙ ap (paste c.args.out.now 0) e; }
+    let e = refused_listed _ _ _ _ _ _ _ _ _ x _ c.method_of-method.ensures _ (to_z-of_z {w = w32} (search rules)) _ c.ask_single-asked.ensures.refusal c.if-asked-ne0.true in
+    record { answer = c.put_refusal.ensures.value ∙ ap length e; content = c.put_refusal.ensures.out_after ∙ ap (paste c.args.out.now 0) e }
 
 pub trim_series-n-requires : goal.trim_series-n-requires
 trim_series-n-requires c =
@@ -61,16 +62,16 @@ pub put_output-requires : goal.put_output-requires
 put_output-requires c =
     let x = text_at _ _ _ _ _ _ _ _ _ _ c.read_text-read.ensures c.in-Good.is in
     let a = few_series _ _ _ _ _ _ _ _ _ x in
-    let b = c.trim_series-n.ensures.short in record {count_bound = (a, few_lines _ _ _ _ _ _ _ _ _ x, search rules, search rules); names_len_bound = (names_short _ _ _ _ _ _ _ _ _ x, counts_few _ _ _ b a); }
+    let b = c.trim_series-n.ensures.short in
+    record { count_bound = (a, few_lines _ _ _ _ _ _ _ _ _ x, search rules, search rules); names_len_bound = (names_short _ _ _ _ _ _ _ _ _ x, counts_few _ _ _ b a) }
 
 pub returns-else-asked-ne0 : goal.returns-else-asked-ne0
 returns-else-asked-ne0 c =
     let x = text_at _ _ _ _ _ _ _ _ _ _ c.read_text-read.ensures c.in-Good.is in
-    let t = (c.trim_series-n.ensures.work, (c.trim_series-n.ensures.answer, (c.trim_series-n.ensures.counts, c.trim_series-n.ensures.short))) in
-    let e = accepted_listed _ _ _ _ _ _ _ _ _ x _ c.method_of-method.ensures _ (to_z-of_z (search rules)) _ c.ask_single-asked.ensures.refusal c.if-asked-ne0.false _ _ _ _ c.trim_series-n.ensures.work c.trim_series-n.ensures.answer c.trim_series-n.ensures.counts in
-    let r = (c.put_output.ensures.value, c.put_output.ensures.out_after) in record {answer = c.put_output.ensures.value ∙ ap length e; content = c.put_output.ensures.out_after ∙ ap (paste c.args.out.now 0) e; }
+    let e = accepted_listed _ _ _ _ _ _ _ _ _ x _ c.method_of-method.ensures _ (to_z-of_z {w = w32} (search rules)) _ c.ask_single-asked.ensures.refusal c.if-asked-ne0.false _ _ _ _ c.trim_series-n.ensures.work c.trim_series-n.ensures.answer c.trim_series-n.ensures.counts in
+    record { answer = c.put_output.ensures.value ∙ ap length e; content = c.put_output.ensures.out_after ∙ ap (paste c.args.out.now 0) e }
 
 pub returns-in-Wrong : goal.returns-in-Wrong
 returns-in-Wrong c =
     let e = wrong_listed _ _ _ c.read_text-read.ensures c.in-Wrong.is in
-    let r = (c.put_refusal-in-Wrong.ensures.value, c.put_refusal-in-Wrong.ensures.out_after) in record {answer = c.put_refusal-in-Wrong.ensures.value ∙ ap length e; content = c.put_refusal-in-Wrong.ensures.out_after ∙ ap (paste c.args.out.now 0) e; }
+    record { answer = c.put_refusal-in-Wrong.ensures.value ∙ ap length e; content = c.put_refusal-in-Wrong.ensures.out_after ∙ ap (paste c.args.out.now 0) e }

@@ -25,22 +25,21 @@ slice_bounds-trim_singles-end c = series_room _ _ _ _ _ _ _ _ _ _ _ c.loop-j.inv
 
 pub put_answer-p-requires : goal.put_answer-p-requires
 put_answer-p-requires c =
-    let at = c in
-    let x = at.loop-j.invariant in
+    let x = c.loop-j.invariant in
     let h = c.loop-j-test.true in
-    let m = at.args.lines in record {small = part_small _ _ _ _ _ _ _ _ _ _ _ x (search rules) (512 * at.loop-j.j + m - 512 * at.loop-j.j) (omega arith) _ c.trim_singles-answer.ensures.answer; at_in_bounds = answer_room _ _ _ _ _ _ _ _ _ _ _ x (search rules); }
+    let m = c.args.lines in
+    record { small = part_small _ _ _ _ _ _ _ _ _ _ _ x (search rules) (512 * c.loop-j.j + m - 512 * c.loop-j.j) (omega arith) _ c.trim_singles-answer.ensures.answer; at_in_bounds = answer_room _ _ _ _ _ _ _ _ _ _ _ x (search rules) }
 
 pub overflow_add-j : goal.overflow_add-j
 overflow_add-j c = let x = c.loop-j.invariant in let h = x.most in search rules
 
 pub loop-j-preserved : goal.loop-j-preserved
 loop-j-preserved c =
-    let at = c in
-    let x = at.loop-j.invariant in
+    let x = c.loop-j.invariant in
     let h = c.loop-j-test.true in
-    let m = at.args.lines in
+    let m = c.args.lines in
     let t = c.trim_singles-answer in
-    part_turn _ _ _ _ _ _ _ _ _ _ _ x (search rules) (512 * at.loop-j.j + m - 512 * at.loop-j.j) (omega arith) _ t.ensures.answer _ (search rules) t.ensures.content _ _ (c.put_answer-p.ensures.value, c.put_answer-p.ensures.out_after)
+    part_turn _ _ _ _ _ _ _ _ _ _ _ x (search rules) (512 * c.loop-j.j + m - 512 * c.loop-j.j) (omega arith) _ t.ensures.answer _ (search rules) t.ensures.content _ _ (c.put_answer-p.ensures.value, c.put_answer-p.ensures.out_after)
 
 pub shape_of-work : goal.shape_of-work
 shape_of-work c = let x = c.loop-j.invariant in search rules
@@ -50,4 +49,5 @@ shape_of-counts c = let l = laid_long _ _ _ _ _ c.loop-j.invariant.laid in searc
 
 pub returns : goal.returns
 returns c =
-    let d = series_done _ _ _ _ _ _ _ _ _ _ _ c.loop-j.invariant (search rules) c.args.setting (to_z-of_z (search rules)) in record {work = d.0; answer = d.1; counts = d.2; short = d.3; }
+    let d = series_done _ _ _ _ _ _ _ _ _ _ _ c.loop-j.invariant (search rules) c.args.setting (to_z-of_z {w = w32} (search rules)) in
+    record { work = d.0; answer = d.1; counts = d.2; short = d.3 }

@@ -1,5 +1,4 @@
 use mathlib.Core.Path.{sym, ◌∙◌}
-use borrow.Author.Rules.{rules}
 use Rattle.form.specs.Form.{bytes}
 use Rattle.form.specs.Output.{method_words, method_number}
 use Rattle.method_word.proofs.WordLaws.{place_here, place_later, place_none}

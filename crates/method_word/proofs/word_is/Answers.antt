@@ -1,6 +1,4 @@
-use Prim.Native.Nat.{◌-◌}
-use borrow.Author.Rules.{rules}
-use Rattle.method_word.proofs.WordLaws.{WordTurn, word_long, word_start, word_stopped, word_turn, word_done}
+use Rattle.method_word.proofs.WordLaws.{word_long, word_start, word_stopped, word_turn, word_done}
 use Rattle.method_word.proofs.word_is.Goals as goal
 
 pub returns-then-n-word : goal.returns-then-n-word

@@ -1,6 +1,5 @@
 use Prim.Native.Nat.{◌-◌}
-use borrow.Author.Rules.{rules}
-use Rattle.method_word.proofs.WordLaws.{WordTurn, word_long, word_start, word_stopped, word_turn, word_done}
+use Rattle.method_word.proofs.WordLaws.{WordTurn}
 use Rattle.method_word.proofs.word_is.Given as goal
 
 abbrev pub invariant-loop-i : goal.invariant-loop-i

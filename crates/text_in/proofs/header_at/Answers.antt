@@ -1,8 +1,5 @@
-use Prim.Native.Nat.{◌-◌}
-use lib.ListN.{take}
-use borrow.Author.Rules.{rules}
 use Rattle.form.specs.Form.{bytes, header}
-use Rattle.text_in.proofs.NameLaws.{HeaderTurn, header_start, header_ended, header_turn, header_stopped, header_done}
+use Rattle.text_in.proofs.NameLaws.{header_start, header_ended, header_turn, header_stopped, header_done}
 use Rattle.text_in.proofs.header_at.Goals as goal
 
 pub loop-i-init : goal.loop-i-init

@@ -1,9 +1,8 @@
-use Prim.Native.Nat.{◌+◌, ◌-◌}
+use Prim.Native.Nat.{◌+◌}
 use native.Mathlib.Omega.{arith}
 use mathlib.Core.Path.{ap, ◌∙◌}
-use lib.ListN.{length, take, drop}
-use borrow.Author.Rules.{rules}
-use Rattle.text_in.proofs.RowLaws.{RowTurn, row_start, row_room, row_bad, row_unended, row_turn, row_done, pattern_within, byte_within}
+use lib.ListN.{drop}
+use Rattle.text_in.proofs.RowLaws.{row_start, row_room, row_bad, row_unended, row_turn, row_done, pattern_within, byte_within}
 use Rattle.fields_in.specs.Fields.{pattern_got, skip_got}
 use Rattle.text_in.proofs.row_at.Goals as goal
 

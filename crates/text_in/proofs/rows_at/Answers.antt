@@ -1,9 +1,6 @@
-use Prim.Native.Nat.{◌-◌}
 use native.Mathlib.Omega.{arith}
 use mathlib.Core.Path.{subst}
-use lib.ListN.{length, take}
-use borrow.Author.Rules.{rules}
-use Rattle.text_in.proofs.LineLaws.{RowsTurn, rows_start, rows_many, rows_bad, rows_turn, rows_done}
+use Rattle.text_in.proofs.LineLaws.{rows_start, rows_many, rows_bad, rows_turn, rows_done}
 use Rattle.text_in.specs.Places.{RowRead}
 use Rattle.text_in.proofs.rows_at.Goals as goal
 
@@ -27,7 +24,6 @@ loop-p-preserved c =
 
 pub returns-in-BadRow : goal.returns-in-BadRow
 returns-in-BadRow c =
-    let t = c.args.s.now in
     rows_bad _ _ _ _ _ _ _ c.loop-p.invariant c.loop-p-test.true (omega (arith, c.if-i-gt511.false)) (subst (RowRead c.args.s.now c.loop-p.p c.args.n c.loop-p.i c.loop-p.work c.row_at-r.new.work) c.in-BadRow.is c.row_at-r.ensures)
 
 pub returns : goal.returns

@@ -1,10 +1,5 @@
 use Prim.Native.Nat.{◌-◌}
-use native.Mathlib.Omega.{arith}
-use mathlib.Core.Path.{subst}
-use lib.ListN.{length, take}
-use borrow.Author.Rules.{rules}
-use Rattle.text_in.proofs.LineLaws.{RowsTurn, rows_start, rows_many, rows_bad, rows_turn, rows_done}
-use Rattle.text_in.specs.Places.{RowRead}
+use Rattle.text_in.proofs.LineLaws.{RowsTurn}
 use Rattle.text_in.proofs.rows_at.Given as goal
 
 abbrev pub invariant-loop-p : goal.invariant-loop-p

@@ -1,7 +1,7 @@
-use Prim.Native.Nat.{◌+◌, ◌-◌, ◌≤◌}
+use Prim.Native.Nat.{◌+◌, ◌≤◌}
 use native.Mathlib.Omega.{arith}
 use mathlib.Core.Path.{sym, ap, ◌∙◌, subst}
-use lib.ListN.{length, take, drop, set}
+use lib.ListN.{length, drop}
 use borrow.Author.Rules.{rules}
 use lib.IntN.{ℤ}
 use mir.Syntax.{w32}
@@ -45,24 +45,18 @@ setting_at-z-requires c =
 pub overflow_add-d : goal.overflow_add-d
 overflow_add-d c =
     let t = c.args.s.now in
-    let at = c.args.at in
-    let n = c.letters_at-n.result in
     let p = c.in-Is.next in
     omega (arith, byte_within t p 44 tt (drop (p + 1) t) (c.ending_at-in-Is.ensures ∙ ap (skip_got t p) c.if-ending_at-2.true))
 
 pub pattern_at-f-requires : goal.pattern_at-f-requires
 pattern_at-f-requires c =
     let t = c.args.s.now in
-    let at = c.args.at in
-    let n = c.letters_at-n.result in
     let p = c.in-Is.next in
     omega (arith, byte_within t p 44 tt (drop (p + 1) t) (c.ending_at-in-Is.ensures ∙ ap (skip_got t p) c.if-ending_at-2.true))
 
 pub overflow_add-e : goal.overflow_add-e
 overflow_add-e c =
     let t = c.args.s.now in
-    let at = c.args.at in
-    let n = c.letters_at-n.result in
     let p = c.in-Is.next in
     let d : p + 1 ≤ length t = omega (arith, byte_within t p 44 tt (drop (p + 1) t) (c.ending_at-in-Is.ensures ∙ ap (skip_got t p) c.if-ending_at-2.true)) in
     omega (arith, pattern_within t (p + 1) c.in-At.mark (drop (p + 1 + 8) t) d (c.pattern_at-f.ensures ∙ ap (pattern_got t (p + 1)) c.in-At.is))
@@ -70,8 +64,6 @@ overflow_add-e c =
 pub overflow_add-result : goal.overflow_add-result
 overflow_add-result c =
     let t = c.args.s.now in
-    let at = c.args.at in
-    let n = c.letters_at-n.result in
     let p = c.in-Is.next in
     omega (arith, byte_within t (p + 1 + 8) 10 tt (drop (p + 1 + 8 + 1) t) (c.ending_at-in-At.ensures ∙ ap (skip_got t (p + 1 + 8)) c.if-ending_at-3.true))
 

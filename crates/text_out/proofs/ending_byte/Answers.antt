@@ -1,6 +1,4 @@
-use Prim.Native.Nat.{◌-◌}
 use mathlib.Core.Path.{sym, ap}
-use lib.ListN.{take}
 use Rattle.form.specs.Parse.{ending}
 use Rattle.fields_in.proofs.Walk.{ending_more}
 use Rattle.text_out.proofs.ending_byte.Goals as goal

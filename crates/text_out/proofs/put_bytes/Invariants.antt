@@ -1,7 +1,6 @@
 use Prim.Native.Nat.{◌-◌}
 use lib.ListN.{length}
-use borrow.Author.Rules.{rules}
-use Rattle.text_out.proofs.FieldLaws.{CopyTurn, copy_start, copy_turn, copy_done}
+use Rattle.text_out.proofs.FieldLaws.{CopyTurn}
 use Rattle.text_out.proofs.put_bytes.Given as goal
 
 abbrev pub invariant-loop-i : goal.invariant-loop-i

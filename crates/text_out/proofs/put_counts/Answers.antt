@@ -1,7 +1,4 @@
-use Prim.Native.Nat.{◌-◌}
-use borrow.Author.Rules.{rules}
-use lib.ListN.{length}
-use Rattle.text_out.proofs.LaidLaws.{laid_long, CountsTurn, counts_start, counts_room, counts_turn, counts_done}
+use Rattle.text_out.proofs.LaidLaws.{laid_long, counts_start, counts_room, counts_turn, counts_done}
 use Rattle.text_out.proofs.put_counts.Goals as goal
 
 pub loop-i-init : goal.loop-i-init
@@ -19,4 +16,5 @@ shape_of-out c = laid_long _ _ _ _ _ c.loop-i.invariant.laid
 
 pub returns : goal.returns
 returns c =
-    let it = counts_done _ _ _ _ _ _ c.loop-i.invariant c.loop-i-test.false in record { value = it.0; out_after = it.1; }
+    let it = counts_done _ _ _ _ _ _ c.loop-i.invariant c.loop-i-test.false in
+    record { value = it.0; out_after = it.1 }

@@ -1,7 +1,6 @@
 use Prim.Native.Nat.{◌-◌}
-use borrow.Author.Rules.{rules}
 use lib.ListN.{length}
-use Rattle.text_out.proofs.LaidLaws.{laid_long, CountsTurn, counts_start, counts_room, counts_turn, counts_done}
+use Rattle.text_out.proofs.LaidLaws.{CountsTurn}
 use Rattle.text_out.proofs.put_counts.Given as goal
 
 abbrev pub invariant-loop-i : goal.invariant-loop-i

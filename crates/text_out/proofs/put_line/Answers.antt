@@ -1,9 +1,7 @@
-use Prim.Native.Nat.{◌-◌}
 use native.Mathlib.Omega.{arith}
 use mathlib.Core.Path.{ap, ◌∙◌}
-use lib.ListN.{length, take, get_or}
-use borrow.Author.Rules.{rules}
-use Rattle.text_out.proofs.PutLaws.{LineTurn, line_start, line_turn, line_done, line_kept}
+use lib.ListN.{length, get_or}
+use Rattle.text_out.proofs.PutLaws.{line_start, line_turn, line_done, line_kept}
 use Rattle.text_out.proofs.put_line.Goals as goal
 
 pub loop-j-init : goal.loop-j-init
@@ -91,4 +89,5 @@ shape_of-out c = c.loop-j.invariant.long
 
 pub returns : goal.returns
 returns c =
-    let it = line_done _ _ _ _ _ _ _ _ _ c.loop-j.invariant c.loop-j-test.false in record { value = it.0; out_after = it.1; }
+    let it = line_done _ _ _ _ _ _ _ _ _ c.loop-j.invariant c.loop-j-test.false in
+    record { value = it.0; out_after = it.1 }

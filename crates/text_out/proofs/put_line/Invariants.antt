@@ -1,9 +1,5 @@
 use Prim.Native.Nat.{◌-◌}
-use native.Mathlib.Omega.{arith}
-use mathlib.Core.Path.{ap, ◌∙◌}
-use lib.ListN.{length, take, get_or}
-use borrow.Author.Rules.{rules}
-use Rattle.text_out.proofs.PutLaws.{LineTurn, line_start, line_turn, line_done, line_kept}
+use Rattle.text_out.proofs.PutLaws.{LineTurn}
 use Rattle.text_out.proofs.put_line.Given as goal
 
 abbrev pub invariant-loop-j : goal.invariant-loop-j

@@ -1,7 +1,5 @@
-use Prim.Native.Nat.{◌-◌}
 use native.Mathlib.Omega.{arith}
-use borrow.Author.Rules.{rules}
-use Rattle.text_out.proofs.LaidLaws.{laid_long, LinesTurn, lines_start, lines_room, lines_turn, lines_done}
+use Rattle.text_out.proofs.LaidLaws.{laid_long, lines_start, lines_room, lines_turn, lines_done}
 use Rattle.text_out.proofs.put_lines.Goals as goal
 
 pub loop-i-init : goal.loop-i-init
@@ -23,4 +21,5 @@ shape_of-out c = laid_long _ _ _ _ _ c.loop-i.invariant.laid
 
 pub returns : goal.returns
 returns c =
-    let it = lines_done _ _ _ _ _ _ _ _ c.loop-i.invariant c.loop-i-test.false in record { value = it.0; out_after = it.1; }
+    let it = lines_done _ _ _ _ _ _ _ _ c.loop-i.invariant c.loop-i-test.false in
+    record { value = it.0; out_after = it.1 }

@@ -1,7 +1,5 @@
 use Prim.Native.Nat.{◌-◌}
-use native.Mathlib.Omega.{arith}
-use borrow.Author.Rules.{rules}
-use Rattle.text_out.proofs.LaidLaws.{laid_long, LinesTurn, lines_start, lines_room, lines_turn, lines_done}
+use Rattle.text_out.proofs.LaidLaws.{LinesTurn}
 use Rattle.text_out.proofs.put_lines.Given as goal
 
 abbrev pub invariant-loop-i : goal.invariant-loop-i

@@ -1,7 +1,5 @@
 use Prim.Native.Nat.{◌-◌}
-use lib.ListN.{length, take}
-use borrow.Author.Rules.{rules}
-use Rattle.text_out.proofs.Paste.{PutTurn, put_start, put_turn, put_done}
+use Rattle.text_out.proofs.Paste.{PutTurn}
 use Rattle.text_out.proofs.put_pattern.Given as goal
 
 abbrev pub invariant-loop-done : goal.invariant-loop-done
