@@ -58,11 +58,9 @@ pub fn piece(s: &[u8], at: usize, stop: u8) -> Span
 // Part k of what the byte `stop` parts.
 pub fn part(s: &[u8], k: usize, stop: u8) -> &[u8] {
     let mut at: usize = 0;
-    let mut i: usize = 0;
-    while i < k {
+    for _ in 0..k {
         let p = piece(s, at, stop);
         at = p.next;
-        i += 1;
     }
     let p = piece(s, at, stop);
     let from = p.from;
@@ -97,12 +95,10 @@ pub fn number(s: &[u8], base: u64) -> u64
     requires { base ≤ 16 }
 {
     let mut v: u64 = 0;
-    let mut i: usize = 0;
-    while i < s.len() {
-        if s[i] != b' ' {
-            v = v % 0x1000_0000_0000_0000 * base + (fields_in::digit(s[i]) % 16) as u64;
+    for byte in s {
+        if *byte != b' ' {
+            v = v % 0x1000_0000_0000_0000 * base + (fields_in::digit(*byte) % 16) as u64;
         }
-        i += 1;
     }
     v
 }

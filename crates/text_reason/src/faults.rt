@@ -115,7 +115,7 @@ fn fields(s: &[u8], from: usize, to: usize) -> usize
     let mut i = from;
     while i < to {
         if s[i] == b',' {
-            n = std::num::wrapping_add_usize(n, 1);
+            n = n.wrapping_add(1);
         }
         i += 1;
     }
@@ -232,12 +232,7 @@ fn field_fault(s: &[u8], line: usize, k: usize, from: usize, to: usize) -> Fault
     requires { (from ≤ to) × (to ≤ length s.now) }
 {
     if from == to {
-        return with_counts(
-            Reason::EmptyField,
-            line,
-            std::num::wrapping_add_usize(k, 1),
-            0,
-        );
+        return with_counts(Reason::EmptyField, line, k.wrapping_add(1), 0);
     }
     if line == 2 && k == 0 {
         return method_fault(s, line, from, to);
@@ -330,7 +325,7 @@ fn end_fault(s: &[u8], line: usize, from: usize, to: usize) -> Fault
     if ends_in(s, from, to, b'\r') && !cut {
         return at_line(Reason::CarriageReturn, line);
     }
-    if line == 1 && !text_in::header_at(s) && !check::same(s, b"method,setting,mark") {
+    if line == 1 && !text_in::header_at(s) && !matches!(s, b"method,setting,mark") {
         return at_line(Reason::FirstLine, line);
     }
     if from == to {
