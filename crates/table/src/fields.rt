@@ -41,8 +41,7 @@ pub fn piece(s: &[u8], at: usize, stop: u8) -> Span
     ensures { (result.from ≤ result.to) × (result.to ≤ length s.now) × (at < length s.now → at < result.next) }
 {
     let from = at_most(at, s.len());
-    let mut to = from;
-    while to < s.len() {
+    for to in from..s.len() {
         if s[to] == stop {
             return Span {
                 from,
@@ -50,9 +49,12 @@ pub fn piece(s: &[u8], at: usize, stop: u8) -> Span
                 next: to + 1,
             };
         }
-        to += 1;
     }
-    Span { from, to, next: to }
+    Span {
+        from,
+        to: s.len(),
+        next: s.len(),
+    }
 }
 
 // Part k of what the byte `stop` parts.

@@ -18,10 +18,8 @@ pub fn end(out: &impl Print) {
 // Spaces up to a column, and one where the text is there already.
 pub fn fill(out: &impl Print, at: usize, column: usize) -> usize {
     let mut next = put(out, at, b' ');
-    let mut i = next;
-    while i < column {
+    for _ in next..column {
         next = put(out, next, b' ');
-        i += 1;
     }
     next
 }
@@ -40,10 +38,8 @@ fn digit(value: u64, place: u32) -> u8 {
 // A pattern of so many digits.
 fn put_hex(out: &impl Print, at: usize, value: u64, digits: u32) -> usize {
     let mut next = at;
-    let mut left = digits;
-    while left > 0 {
-        left -= 1;
-        next = put(out, next, digit(value, left));
+    for place in (0..digits).rev() {
+        next = put(out, next, digit(value, place));
     }
     next
 }

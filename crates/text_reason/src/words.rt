@@ -97,9 +97,8 @@ fn put_many_names(rt: &impl Eprint, fault: Fault) {
 
 // What is wrong with a whole line or a whole text.
 fn put_whole(rt: &impl Eprint, fault: Fault) {
-    let reason = fault.reason;
     let line = fault.line;
-    match reason {
+    match fault.reason {
         Reason::Empty => put_text(rt, "the text is empty"),
         Reason::ByteOrderMark => put_text(rt, "the text begins with a byte order mark"),
         Reason::CarriageReturn => {
@@ -127,8 +126,7 @@ fn put_whole(rt: &impl Eprint, fault: Fault) {
 }
 
 pub fn put_fault(rt: &impl Eprint, s: &[u8], fault: Fault) {
-    let reason = fault.reason;
-    match reason {
+    match fault.reason {
         Reason::MethodCapital => {
             put_with_field(rt, s, fault, ": a method's name has small letters")
         }
