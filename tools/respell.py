@@ -66,12 +66,26 @@ def plan():
     return found, turned
 
 
+def of_library(text):
+    """The names that a file has from the library."""
+    return {n for mod, names in re.findall(r"^use ([^\s{]+)\.\{([^}]*)\}", text, re.M) if not own_module(mod) for n in re.split(r",\s*", names)}
+
+
+def own_module(mod):
+    return mod.startswith("Rattle.") and mod.split(".")[1] in OWN
+
+
+OWN = {p.split("/")[1] for p in glob.glob("crates/*/src")}
+
+
 def turn_proof(text, turned):
+    others = of_library(text)
+
     def one(m):
         it = m.group(0)
         if it.startswith("--"):
             return turn_comment(it, turned)
-        return turned.get(it, it)
+        return it if it in others else turned.get(it, it)
 
     return TOKEN.sub(one, text)
 

@@ -10,7 +10,7 @@ use lib.Arith.{lt_of_le-ne}
 use lib.Dec.{T, is_le, compare_is_eq, eqb, leb→le, nleb→lt, eqb→eq, eqb_refl}
 use lib.Pow.{pow_pos, pow-add, pow-lt, pow_mono}
 use lib.Ieee.{Float, Format, binary32, binary64, prec, emax, low, round, add, sub, nearest as nearestBy, size as length}
-use lib.Ieee.Digits.{size_le, size-lt}
+use lib.Ieee.Digits.{size-le, size-lt}
 use lib.Ieee.Exact.{HasValue, round_exact}
 use lib.Ieee.Fits.{two}
 use lib.Ieee.Nearest.{closest, closest_same}
@@ -76,7 +76,7 @@ module _ (f : Format) (q N : ℕ) (l : 2 ^ (prec f - 1) * 2 ^ q ≤ N) (h : N < 
   -- N has prec + q digits, so that rounding drops q of them
   drop_is : length N - prec f ≡ q
   drop_is =
-      let under : length N ≤ prec f + q = size_le N (prec f + q) (rw (top_is f q) h) in
+      let under : length N ≤ prec f + q = size-le N (prec f + q) (rw (top_is f q) h) in
       let over : prec f - 1 + q < length N = lt_of_not-le (λ (g : length N ≤ prec f - 1 + q). not-le_of_lt (lt_of_lt_of_le (size-lt N) (pow_mono g)) (rw (pow-add 2 (prec f - 1) q) l)) in
       omega (arith, two f)
 

@@ -3,7 +3,7 @@
 use mathlib.Core.Path.{◌≡◌, refl, sym, ap, ◌∙◌, subst}
 use mathlib.Core.Bool.{Bool, false, cond, not}
 use Prim.Native.Nat.{ℕ, zero, suc, ◌+◌, ◌-◌, ◌*◌, ◌/◌, ◌%◌, ◌^◌, ◌≤◌, ◌<◌}
-use native.Mathlib.Nat.{add_assoc, div-lt_iff_lt-mul, le_of_mul-le-mul_right, mod-eq_of_lt, mul_assoc, mul_comm, mul-div_cancel, mul-le-mul_right, mul-one, mul-pos, mul_right_comm, mul_sub, zero-add}
+use native.Mathlib.Nat.{add_assoc, div-lt_iff_lt-mul, le_of_mul-le-mul_right, mod-eq_of_lt, mul_assoc, mul_comm, mul-div_cancel, mul-le-mul_right, mul-one, mul-pos, mul_right_comm, mul-sub, zero-add}
 use native.Mathlib.Numerals.{sub-one}
 use native.Mathlib.Omega.{arith}
 use borrow.Author.Tests.{le-ltb, lt-leb, ne_eqb}
@@ -101,7 +101,7 @@ pub right_cross : (B b c d e : ℕ) → B * c ≡ b * d → B * e * c ≡ b * (e
 right_cross B b c d e h = left_cross B b c e d h ∙ ap (λ (x : ℕ). b * x) (mul_comm d e)
 
 pub minus_cross : (A B C a b c : ℕ) → A * c ≡ a * C → B * c ≡ b * C → (A - B) * c ≡ (a - b) * C
-minus_cross A B C a b c h k = rw (mul_comm (A - B) c, mul_sub c A B, mul_comm c A, mul_comm c B, h, k, mul_comm (a - b) C, mul_sub C a b) (omega arith)
+minus_cross A B C a b c h k = rw (mul_comm (A - B) c, mul-sub c A B, mul_comm c A, mul_comm c B, h, k, mul_comm (a - b) C, mul-sub C a b) (omega arith)
 
 pub less_cross : (A B C a b c : ℕ) → 0 < c → A * c ≡ a * C → B * c ≡ b * C → b ≤ a → B ≤ A
 less_cross A B C a b c p h k l = le_of_mul-le-mul_right (omega (arith, mul-le-mul_right C l)) p

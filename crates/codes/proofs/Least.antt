@@ -1,6 +1,6 @@
 -- The least exponent that holds a span, by a search downwards.
 use Rattle.std.proofs.Common.{◌≡◌, ℕ, zero, ◌+◌, ◌-◌, ◌*◌, ◌/◌, ◌^◌, ◌<◌, ◌≤◌, max, ◌⊎◌, sym, ap, inl, inr, zero-le, le_trans, mul-le-mul_right, mul_comm, div-lt_iff_lt-mul, mul-le-mul_left, mul-lt-mul_of_pos_right, arith, pow_pos, pow_mono, pow-add, le-leb}
-use native.Mathlib.Nat.{mul_sub}
+use native.Mathlib.Nat.{mul-sub}
 use native.Mathlib.Decide.{dec_lt, dec_le}
 use Rattle.meaning.specs.Readings.{spacing_exp, size, sign, magnitude, infinity, exponent_field, position}
 use Rattle.meaning.specs.Layers.{last_code, holds, least_from}
@@ -33,7 +33,7 @@ unfolding last_code
 steps_start b l h =
     let P = 2 ^ (26 - b) in
     let whole : P * 2 ^ b ≡ 2 ^ 26 = sym (pow_split 26 b (omega arith)) in
-    omega (arith, whole, mul_comm (2 ^ b - 2) P, mul_sub P (2 ^ b) 2, pow_mono {i = 26 - b} {j = 24} (omega arith))
+    omega (arith, whole, mul_comm (2 ^ b - 2) P, mul-sub P (2 ^ b) 2, pow_mono {i = 26 - b} {j = 24} (omega arith))
 
 -- a word is wide enough for the units of a span at the exponent below one that holds it
 pub lower_small : (n e : ℕ) → n ≤ 65534 * 2 ^ e → n * 2 / 2 ^ (e - 1 - 39) < 2 ^ 60

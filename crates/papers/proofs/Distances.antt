@@ -1,7 +1,7 @@
 -- Distances of whole numbers: shifted, multiplied, and by way of a third.
 use mathlib.Core.Path.{◌≡◌}
 use Prim.Native.Nat.{ℕ, ◌+◌, ◌-◌, ◌*◌, ◌≤◌, ◌<◌}
-use native.Mathlib.Nat.{mul-le-mul_right, mul-lt-mul_of_pos_right, mul_comm, mul_sub}
+use native.Mathlib.Nat.{mul-le-mul_right, mul-lt-mul_of_pos_right, mul_comm, mul-sub}
 use native.Mathlib.Omega.{arith}
 use Rattle.meaning.specs.Readings.{distance}
 
@@ -15,7 +15,7 @@ apart_down p o h = omega arith
 
 pub scaled : (x y g : ℕ) → distance (x * g) (y * g) ≡ distance x y * g
 unfolding distance
-scaled x y g = omega (arith, mul_comm (x - y) g, mul_sub g x y, mul_comm (y - x) g, mul_sub g y x, mul_comm g x, mul_comm g y)
+scaled x y g = omega (arith, mul_comm (x - y) g, mul-sub g x y, mul_comm (y - x) g, mul-sub g y x, mul_comm g x, mul_comm g y)
 
 pub distance_le : (x y : ℕ) → distance x y ≤ x + y
 unfolding distance

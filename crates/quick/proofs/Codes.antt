@@ -3,7 +3,7 @@ use mathlib.Core.Path.{◌≡◌, refl, sym, ap, ◌∙◌}
 use mathlib.Core.Logic.{inl, inr}
 use mathlib.Core.Bool.{Bool, true, false}
 use Prim.Native.Nat.{ℕ, zero, ◌+◌, ◌-◌, ◌*◌, ◌%◌, ◌^◌, ◌≤◌, ◌<◌}
-use native.Mathlib.Nat.{lt_of_mul-lt-mul_right, mul_assoc, zero-mul, mul_sub, mul_comm, mul-le-mul_right}
+use native.Mathlib.Nat.{lt_of_mul-lt-mul_right, mul_assoc, zero-mul, mul-sub, mul_comm, mul-le-mul_right}
 use native.Mathlib.Decide.{dec_le}
 use native.Mathlib.Omega.{arith}
 use lib.Dec.{leb}
@@ -70,7 +70,7 @@ minus_whole j a b n e u v =
     }
   where
     less : (x y g n : ℕ) → y * g + n ≡ x * g → n ≡ (x - y) * g
-    less x y g n h = omega (arith, mul_comm (x - y) g, mul_sub g x y, mul_comm g x, mul_comm g y)
+    less x y g n h = omega (arith, mul_comm (x - y) g, mul-sub g x y, mul_comm g x, mul_comm g y)
 
 -- ---- two readings
 

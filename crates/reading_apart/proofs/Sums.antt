@@ -5,7 +5,7 @@
 use mathlib.Core.Path.{◌≡◌, refl, sym, ap, ◌∙◌}
 use mathlib.Core.Logic.{◌⊎◌, inl, inr}
 use Prim.Native.Nat.{ℕ, suc, min, ◌+◌, ◌-◌, ◌*◌, ◌/◌, ◌^◌, ◌≤◌, ◌<◌}
-use native.Mathlib.Nat.{mul_comm, mul_sub, mul-le-mul_right, mul-le-mul_left, mul-lt-mul_of_pos_right, lt_of_mul-lt-mul_right, le-div_iff_mul-le, div-lt_iff_lt-mul, div-eq_of_lt, div-eq_of_lt-le, min-eq_left, min-eq_right}
+use native.Mathlib.Nat.{mul_comm, mul-sub, mul-le-mul_right, mul-le-mul_left, mul-lt-mul_of_pos_right, lt_of_mul-lt-mul_right, le-div_iff_mul-le, div-lt_iff_lt-mul, div-eq_of_lt, div-eq_of_lt-le, min-eq_left, min-eq_right}
 use native.Mathlib.Decide.{dec_lt, dec_le}
 use native.Mathlib.Omega.{arith}
 use lib.Dec.{ltb}
@@ -50,7 +50,7 @@ significand_parts F m h =
 -- ---- rounded down and rounded up
 
 sub_times : (m n k : ℕ) → (m - n) * k ≡ m * k - n * k
-sub_times m n k = mul_comm (m - n) k ∙ mul_sub k m n ∙ rw (mul_comm k m, mul_comm k n) refl
+sub_times m n k = mul_comm (m - n) k ∙ mul-sub k m n ∙ rw (mul_comm k m, mul_comm k n) refl
 
 suc_times : (t k : ℕ) → (t + 1) * k ≡ t * k + k
 suc_times t k = omega arith

@@ -1,0 +1,31 @@
+-- `fine_double` meets its contract, by the laws of `Fine` at binary64.
+use Prim.Native.Nat.{◌<◌}
+use native.Mathlib.Omega.{arith}
+use borrow.Author.Rules.{rules}
+use lib.Ieee.{binary64}
+use Rattle.meaning.specs.Readings.{infinity}
+use Rattle.absolute.proofs.Fine.{offset_number, moved_number, fine_moves, fine_stays}
+use Rattle.absolute.proofs.Values.{bits_number}
+use Rattle.absolute.proofs.fine_double.Goals as goal
+
+-- `fine_double` meets its contract, by the laws of `Fine` at binary64.
+finite : (c : goal.Start) → c.args.m < infinity 52 11
+unfolding infinity
+finite c = omega arith
+
+pub float_from_bits-offset : goal.float_from_bits-offset
+float_from_bits-offset c = offset_number binary64 c.args.q _ (omega arith) (omega arith)
+
+pub float_from_bits-sum : goal.float_from_bits-sum
+float_from_bits-sum c = bits_number binary64 c.args.m (finite c)
+
+pub float_to_bits-rounded : goal.float_to_bits-rounded
+float_to_bits-rounded c = moved_number binary64 c.args.q _ (omega arith) (omega arith) c.args.m (finite c)
+
+pub returns-then-m-start : goal.returns-then-m-start
+returns-then-m-start c =
+    let s = c.before in fine_moves binary64 s.args.q _ (omega arith) (omega arith) s.args.m (finite s) c.if-m-start.true
+
+pub returns-else-m-start : goal.returns-else-m-start
+returns-else-m-start c =
+    let s = c.before in fine_stays binary64 s.args.q _ (omega arith) (omega arith) s.args.m (finite s) c.if-m-start.false

@@ -1,0 +1,14 @@
+use mathlib.Core.Path.{◌≡◌}
+use Prim.Native.Nat.{◌/◌, ◌%◌, ◌^◌, ◌-◌}
+use native.Mathlib.Omega.{arith}
+use borrow.Author.Rules.{rules}
+use lib.ListN.{length, length-set}
+use Rattle.parts.proofs.Fills.{Filled, filled_turn, filled_end}
+use Rattle.array_halves.proofs.cut_pairs.Given as goal
+
+-- Half after half.
+abbrev pub invariant-loop-i : goal.invariant-loop-i
+invariant-loop-i l = (length l.halves ≡ length l.numbers) × Filled (λ w. w / 2 ^ l.shift % 65536) l.numbers l.halves l.i
+
+abbrev pub decreases-loop-i : goal.decreases-loop-i
+decreases-loop-i l = length l.numbers - l.i

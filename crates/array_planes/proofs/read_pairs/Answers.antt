@@ -1,0 +1,11 @@
+-- Both bytes at once.
+use borrow.Author.Rules.{rules}
+use mathlib.Core.Path.{◌∙◌}
+use lib.ListN.{length}
+use Rattle.array_planes.proofs.Places.{fetched_pairs}
+use Rattle.array_planes.proofs.read_pairs.Goals as goal
+
+pub returns : goal.returns
+returns c =
+    let s = c.args in
+    c.join_bytes.ensures ∙ fetched_pairs s.n s.at (length s.pairs.now) s.planes.now

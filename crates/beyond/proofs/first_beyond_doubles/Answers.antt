@@ -1,0 +1,35 @@
+-- Refused or accepted, by the laws of `Calls`.
+use mathlib.Core.Path.{◌≡◌, ap, ◌∙◌}
+use lib.IntN.{ℤ}
+use mir.Facts.{to_z-of_z}
+use borrow.Author.Rules.{rules}
+use Rattle.asking.specs.Asked.{refusal_of, asked_number}
+use Rattle.beyond.specs.Answers.{answer_of}
+use Rattle.beyond.proofs.Calls.{refused_first, none_refused, in_range, double_limit}
+use Rattle.beyond.proofs.first_beyond_doubles.Goals as goal
+
+-- Refused or accepted, by the laws of `Calls`.
+-- what was asked of p: the refusal's number, and p counted from the exponent of the least spacing
+refusal : (c : goal.After-ask_double-asked) → c.ask_double-asked.result.refusal ≡ refusal_of 52 11 5 c.args.p
+refusal c = c.ask_double-asked.ensures.refusal ∙ ap (λ (z : ℤ). refusal_of 52 11 5 z) (to_z-of_z c.ranges.p)
+
+number : (c : goal.After-ask_double-asked) → c.ask_double-asked.result.number ≡ asked_number 52 11 5 c.args.p
+number c = c.ask_double-asked.ensures.number ∙ ap (λ (z : ℤ). asked_number 52 11 5 z) (to_z-of_z c.ranges.p)
+
+pub returns-then-refusal-ne0 : goal.returns-then-refusal-ne0
+unfolding answer_of
+returns-then-refusal-ne0 c =
+    let b = c in
+    refused_first 52 11 _ _ _ _ _ _ _ b.ask_lengths.ensures (refusal b.before.before) b.first_no-refusal.ensures c.if-refusal-ne0.true
+
+pub scan-requires : goal.scan-requires
+scan-requires c =
+    let b = c in
+    let n = none_refused _ _ _ _ _ b.ask_lengths.ensures b.first_no-refusal.ensures c.if-refusal-ne0.false in
+    (double_limit _ _ _ n.1 (refusal b.before.before) (number b.before.before), n.0)
+
+pub returns : goal.returns
+returns c =
+    let b = c in
+    let n = none_refused _ _ _ _ _ b.ask_lengths.ensures b.first_no-refusal.ensures c.if-refusal-ne0.false in
+    c.scan.ensures ∙ in_range 52 11 _ _ _ _ n.0 _ _ (refusal b.before.before) n.1 (number b.before.before)

@@ -1,0 +1,9 @@
+-- The answer, handed over.
+use borrow.Author.Rules.{rules}
+use mathlib.Core.Path.{ap, ◌∙◌}
+use Rattle.capi.specs.ForC.{number_for_c}
+use Rattle.capi.proofs.megharutti_planes_of_singles.Goals as goal
+
+pub returns : goal.returns
+returns c =
+    let p = (c.planes_of_singles-answer.ensures.answer, c.planes_of_singles-answer.ensures.content) in record {answer = c.converted_number.ensures ∙ ap number_for_c c.planes_of_singles-answer.ensures.answer; content = c.planes_of_singles-answer.ensures.content; }

@@ -1,0 +1,18 @@
+-- The trim's answer, handed over.
+use borrow.Author.Rules.{rules}
+use mathlib.Core.Path.{ap, ◌∙◌}
+use lib.IntN.{ℤ}
+use mir.Facts.{to_z-of_z}
+use Rattle.meaning.specs.Calls.{AfterTrim, trim_singles}
+use Rattle.meaning.specs.Methods.{Counts}
+use Rattle.meaning.specs.Questions.{Outcome}
+use Rattle.capi.specs.ForC.{number_for_c, counts_for_c}
+use Rattle.capi.proofs.megharutti_trim_singles.Goals as goal
+
+pub returns : goal.returns
+returns c =
+    let s = c in
+    let t = (c.trim_singles-answer.ensures.answer, c.trim_singles-answer.ensures.content) in
+    let after = ap (λ (z : ℤ). trim_singles s.args.method z s.args.mark s.args.readings.now) (to_z-of_z s.ranges.setting) in
+    let answer = c.trim_singles-answer.ensures.answer ∙ ap (λ (a : AfterTrim). a.answer) after in
+    let h = (c.hand_over.ensures.number, c.hand_over.ensures.counted) in record {answer = c.hand_over.ensures.number ∙ ap number_for_c answer; content = c.trim_singles-answer.ensures.content ∙ ap (λ (a : AfterTrim). a.readings) after; counted = c.hand_over.ensures.counted ∙ ap (λ (o : Outcome Counts). counts_for_c o s.args.counts.now) answer; }

@@ -1,0 +1,58 @@
+use Rattle.std.proofs.Common.{◌≡◌, ℕ, ◌+◌, ◌-◌, ◌*◌, ◌^◌, leb, sym, ap, ◌∙◌, arith, rules, le-leb}
+use borrow.Author.Tests.{lt-leb}
+use Rattle.meaning.specs.Readings.{magnitude, sign, pattern}
+use Rattle.meaning.proofs.Patterns.{magnitude_pattern}
+use Rattle.codes.specs.Cut.{reading_of}
+use Rattle.codes.proofs.Reading.{Test, test_even, both_law, test_law, reading_lost, sign_small}
+use Rattle.codes.proofs.holds_at.Goals as goal
+
+test_at : (c : goal.After-top_of-top)
+    → Test c.args.steps c.args.hi c.args.lo
+    c.args.e c.wrapping_add_u64-d.result
+    (c.cut_reading-a.result.lost + c.cut_reading-b.result.lost)
+test_at c =
+    let at = c in
+    let s = at.args in
+    let t = c.unit_of-s in
+    let x = c.cut_reading-a in
+    let y = c.cut_reading-b in
+    test_law s.hi s.lo (sign_small s.lo (omega arith)) (omega arith) (omega arith) (omega arith) s.steps (omega arith) s.e (omega arith) t.result x.result y.result
+    t.ensures x.ensures (y.ensures ∙ ap (λ (z : ℕ). reading_of z t.result) c.opposite-o.ensures)
+    c.wrapping_add_u64-d.result c.wrapping_add_u64-d.ensures.value c.if-lost-eq2.false
+
+top-at : (c : goal.After-top_of-top)
+    → c.top_of-top.result ≡ c.args.steps * 2 ^ (c.args.e + 1 - (c.args.e - 39))
+top-at c =
+    let s = c.args in
+    c.top_of-top.ensures ∙ ap (λ (z : ℕ). s.steps * 2 ^ (s.e + 1 - z)) c.unit_of-s.ensures
+
+pub cut_reading-b-requires : goal.cut_reading-b-requires
+cut_reading-b-requires c =
+    let s = c.args in
+    let m : magnitude 23 8 c.opposite-o.result ≡ magnitude 23 8 s.lo = ap (λ (x : ℕ). magnitude 23 8 x) c.opposite-o.ensures ∙ magnitude_pattern 23 8 (1 - sign 23 8 s.lo) (magnitude 23 8 s.lo) (omega arith) in
+    rw m (omega (arith, c.unit_of-s.ensures))
+
+pub overflow_add-lost : goal.overflow_add-lost
+overflow_add-lost c =
+    omega (arith, reading_lost _ _ _ c.cut_reading-a.ensures, reading_lost _ _ _ c.cut_reading-b.ensures)
+
+pub returns-then-lost-eq2 : goal.returns-then-lost-eq2
+returns-then-lost-eq2 c =
+    let at = c in
+    let s = at.args in
+    let t = c.unit_of-s in
+    let x = c.cut_reading-a in
+    let y = c.cut_reading-b in
+    sym (le-leb _ _ (both_law s.hi s.lo (sign_small s.lo (omega arith)) (omega arith) (omega arith) (omega arith) s.steps (omega arith) s.e (omega arith) t.result x.result y.result
+    t.ensures x.ensures (y.ensures ∙ ap (λ (z : ℕ). reading_of z t.result) c.opposite-o.ensures) c.if-lost-eq2.true))
+
+pub returns-then-d-top : goal.returns-then-d-top
+returns-then-d-top c = sym (le-leb _ _ ((test_at c.before).under (omega (arith, top-at c.before))))
+
+pub returns-then-top-d : goal.returns-then-top-d
+returns-then-top-d c = sym (lt-leb _ _ ((test_at c.before.before).over (omega (arith, top-at c.before.before))))
+
+pub returns : goal.returns
+returns c =
+    let same : c.wrapping_add_u64-d.result ≡ c.top_of-top.result = omega arith in
+    test_even _ _ _ _ _ _ (test_at c.before.before) (same ∙ top-at c.before.before)

@@ -1,0 +1,13 @@
+use Rattle.std.proofs.Common.{ℕ, ◌+◌, ◌-◌, ◌*◌, ◌^◌, ◌<◌, ◌≤◌, sym, ◌∙◌, subst, inl, inr, mul-le-mul_right, arith, rules, leb-false, leb-true}
+use Rattle.meaning.specs.Readings.{magnitude, position}
+use Rattle.meaning.specs.Layers.{last_code}
+use Rattle.codes.proofs.Reading.{sign_small}
+use Rattle.layer_width.proofs.Steps.{steps_some, steps_few}
+use Rattle.codes.proofs.Least.{least_is, lower_small, start_holds, lower_shifts}
+use Rattle.codes.proofs.least_step.Given as goal
+
+abbrev pub invariant-loop-e : goal.invariant-loop-e
+invariant-loop-e l = (position 23 8 l.hi - position 23 8 l.lo ≤ last_code l.width * 2 ^ l.e) × (l.e ≤ 277)
+
+abbrev pub decreases-loop-e : goal.decreases-loop-e
+decreases-loop-e l = l.e

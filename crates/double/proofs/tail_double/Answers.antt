@@ -1,0 +1,32 @@
+-- The words are those of `tail_word`; the cut and the new tail have room.
+use Rattle.std.proofs.Common.{◌≡◌, ◌^◌, ◌<◌, ◌∙◌, arith, pow_pos, rules}
+use lib.Bits.{and_le_l}
+use Rattle.meaning.specs.Readings.{magnitude, finite}
+use Rattle.reading.specs.Left.{settled_from}
+use Rattle.reading.specs.Tails.{tail_word}
+use Rattle.reading.proofs.Words.{floor_room}
+use Rattle.reading.proofs.Tails.{mask_cut, settled_tail_lem}
+use Rattle.double.specs.Left.{settled_of, constants_of}
+use Rattle.double.proofs.tail_double.Goals as goal
+
+words : (c : goal.After-settle_double)
+    → let s = c.args in
+    settled_of c.settle_double.result ≡ settled_from 52 11 s.mark s.x (tail_word 52 11 (constants_of s.tail) s.add s.x) 0
+unfolding tail_word finite magnitude
+words c = c.settle_double.ensures ∙ simp (c.below_double-z.ensures, c.unless_zero.ensures.value)
+
+pub overflow_sub-s : goal.overflow_sub-s
+overflow_sub-s c = omega (arith, and_le_l c.args.x c.args.tail.ones)
+
+-- The words are those of `tail_word`; the cut and the new tail have room.
+pub overflow_add-y : goal.overflow_add-y
+overflow_add-y c =
+    let s = c in
+    let t = s.args.tail.bits in
+    let ones = s.requires.0.is_ones in
+    let few : c.unless_zero.result < 2 ^ t = omega (arith, c.unless_zero.ensures.most, ones, pow_pos t) in
+    omega (arith, mask_cut t s.args.x s.args.tail.ones ones, floor_room 64 t s.args.x c.unless_zero.result (omega arith) (search rules) few)
+
+pub returns : goal.returns
+returns c =
+    let s = c in record {result = words c ∙ settled_tail_lem 52 11 (constants_of s.args.tail) s.requires.0 s.args.mark s.args.x s.args.add; words = words c; }

@@ -1,0 +1,27 @@
+-- The walk's laws at each turn.
+use borrow.Author.Rules.{rules}
+use mathlib.Core.Path.{refl}
+use Prim.Native.Nat.{◌-◌}
+use native.Mathlib.Omega.{arith}
+use lib.ListN.{length}
+use Rattle.reading.specs.Left.{settled_tail}
+use Rattle.loops.specs.Tallies.{totals_of}
+use Rattle.loops.specs.Walk.{stays}
+use Rattle.loops.proofs.Tallies.{one_tail}
+use Rattle.loops.proofs.Walks.{Walk, begin, room, step, end}
+use Rattle.doubles.proofs.tail_doubles.Goals as goal
+
+pub loop-i-init : goal.loop-i-init
+loop-i-init c = begin (λ s w. one_tail 52 11 _ _ _ w) c.new-sums.ensures
+
+pub tail_double-one-requires : goal.tail_double-one-requires
+tail_double-one-requires c = c.requires
+
+pub plus-sums-requires : goal.plus-sums-requires
+plus-sums-requires c = room c.loop-i.invariant (omega arith) c.tail_double-one.ensures.result
+
+pub loop-i-preserved : goal.loop-i-preserved
+loop-i-preserved c = step c.loop-i.invariant (omega arith) c.tail_double-one.ensures.result c.plus-sums.ensures refl
+
+pub returns : goal.returns
+returns c = let it = end c.loop-i.invariant (omega arith) in record { sums = it.0; content = it.1; }

@@ -1,0 +1,24 @@
+use borrow.Author.Rules.{rules}
+use mathlib.Core.Path.{◌≡◌, refl, sym, ap, ◌∙◌, subst}
+use Prim.Native.Nat.{ℕ, min, ◌+◌, ◌-◌, ◌*◌, ◌≤◌, ◌<◌}
+use native.Mathlib.Nat.{zero-add}
+use native.Mathlib.Omega.{arith}
+use lib.ListN.{length, take, drop, length-take, length-drop}
+use Rattle.reading.specs.Left.{Settled, settled_tail}
+use Rattle.loops.specs.Tallies.{totals_of}
+use Rattle.loops.specs.Walk.{state_at, walked_by, tallied_by}
+use Rattle.loops.specs.Methods.{Filling, filling_after}
+use Rattle.loops.proofs.Tallies.{one_tail, few_wider}
+use Rattle.loops.proofs.Walks.{Walk, begin, walked_length, few_part, part, end, end_state}
+use Rattle.loops.proofs.Turns.{states_two, told_walked, told_tallied}
+use Rattle.rows.specs.Rows.{fill_at}
+use Rattle.rows.proofs.Rows.{row_is, rest_same, filled}
+use Rattle.groom_doubles.proofs.groom_rows.Given as goal
+
+-- Row after row, by the walk's laws; each row's fillings are those of its turns.
+abbrev pub invariant-loop-a : goal.invariant-loop-a
+invariant-loop-a l = Walk (filling_after 52 11 l.tail.ones l.mark) (λ s w. settled_tail 52 11 l.tail.bits s l.mark w) l.first l.initial.block l.block (totals_of l.sums) l.add l.a
+    × Filling l.tail.ones l.add × (l.a ≡ min (l.r * 512) (length l.initial.block)) × (drop l.a l.block ≡ drop l.a l.initial.block)
+
+abbrev pub decreases-loop-a : goal.decreases-loop-a
+decreases-loop-a l = length l.initial.block - l.a

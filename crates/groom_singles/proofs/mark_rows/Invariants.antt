@@ -1,0 +1,16 @@
+use mathlib.Core.Path.{◌≡◌, ap₂, ◌∙◌}
+use mathlib.Core.List.{List}
+use Prim.Native.Nat.{ℕ, min, ◌+◌, ◌-◌, ◌*◌}
+use native.Mathlib.Omega.{arith}
+use lib.Bits.{bit_xor}
+use lib.ListN.{length, drop, get_or, length-take}
+use Rattle.reading.specs.Left.{takes}
+use Rattle.rows.proofs.Rows.{row_is, Marked, rows_begin, rows_next, rows_end}
+use Rattle.groom_singles.proofs.mark_rows.Given as goal
+
+-- Row by row, each with a bit of its own.
+abbrev pub invariant-loop-a : goal.invariant-loop-a
+invariant-loop-a l = Marked 23 8 l.mark l.block l.turns l.r × (length l.turns ≡ 513) × (l.a ≡ min (l.r * 512) (length l.block))
+
+abbrev pub decreases-loop-a : goal.decreases-loop-a
+decreases-loop-a l = length l.block - l.a

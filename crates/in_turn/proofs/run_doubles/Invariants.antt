@@ -1,0 +1,13 @@
+use borrow.Author.Rules.{rules}
+use Prim.Native.Nat.{◌-◌}
+use native.Mathlib.Omega.{arith}
+use lib.ListN.{length}
+use Rattle.in_turn.proofs.Turns.{Turn, turn_start, turn_next, turn_long, turn_end}
+use Rattle.in_turn.proofs.run_doubles.Given as goal
+
+-- Turn after turn, by the laws of `Turns`.
+abbrev pub invariant-loop-i : goal.invariant-loop-i
+invariant-loop-i l = Turn 52 11 l.methods l.settings l.mark l.initial.readings l.readings l.i
+
+abbrev pub decreases-loop-i : goal.decreases-loop-i
+decreases-loop-i l = l.n - l.i

@@ -1,0 +1,24 @@
+use borrow.Author.Rules.{rules}
+use Rattle.form.specs.Form.{bytes}
+use Rattle.listing.proofs.Pieces.{heading_room, counts_room, output_laid}
+use Rattle.listing.proofs.put_output.Goals as goal
+
+pub put_bytes-r-requires : goal.put_bytes-r-requires
+unfolding bytes
+put_bytes-r-requires c =
+    let at = c in
+    let s = at in
+    heading_room s.args.out.now s.args.names.now _ _ _ s.requires.count_bound s.requires.names_len_bound.0 _ _ (at.put_bytes-p.ensures.value, at.put_bytes-p.ensures.out_after) _ _ (at.put_lines-q.ensures.value, at.put_lines-q.ensures.out_after)
+
+pub put_bytes-requires : goal.put_bytes-requires
+unfolding bytes
+put_bytes-requires c =
+    let at = c in
+    let s = at in
+    counts_room s.args.out.now s.args.names.now _ _ _ s.requires.count_bound s.requires.names_len_bound.0 _ _ (at.put_bytes-p.ensures.value, at.put_bytes-p.ensures.out_after) _ _ (at.put_lines-q.ensures.value, at.put_lines-q.ensures.out_after) _ _ (c.put_bytes-r.ensures.value, c.put_bytes-r.ensures.out_after) s.args.counts.now s.requires.names_len_bound.1
+
+pub returns : goal.returns
+unfolding bytes
+returns c =
+    let at = c in
+    let s = at in let it = output_laid s.args.out.now s.args.names.now _ _ _ s.requires.count_bound s.requires.names_len_bound.0 _ _ (at.put_bytes-p.ensures.value, at.put_bytes-p.ensures.out_after) _ _ (at.put_lines-q.ensures.value, at.put_lines-q.ensures.out_after) _ _ (c.put_bytes-r.ensures.value, c.put_bytes-r.ensures.out_after) s.args.counts.now s.requires.names_len_bound.1 _ _ (c.put_bytes.ensures.value, c.put_bytes.ensures.out_after) in record { value = it.0; out_after = it.1; }

@@ -1,0 +1,44 @@
+-- The words are those of `round_word` and `round_over`; every sum has room.
+use Rattle.std.proofs.Common.{◌≡◌, ◌+◌, ◌-◌, ◌%◌, ◌^◌, ◌<◌, refl, ◌∙◌, arith, pow_pos, pow_mono, rules}
+use lib.Bits.{bit_and, and_le_l}
+use Rattle.meaning.specs.Readings.{magnitude, finite}
+use Rattle.reading.specs.Left.{settled_from}
+use Rattle.reading.specs.Tails.{near_word, round_word, round_over}
+use Rattle.reading.proofs.Tails.{half_positive, settled_round}
+use Rattle.reading.proofs.Wraps.{wrapped}
+use Rattle.single.specs.Left.{settled_of, constants_of}
+use Rattle.single.proofs.round_single.Goals as goal
+
+words : (c : goal.After-settle_single)
+    → let s = c.args in
+    settled_of c.settle_single.result ≡ settled_from 23 8 s.mark s.x (round_word 23 8 (constants_of s.tail) s.x) (round_over 23 8 (constants_of s.tail) s.x)
+unfolding round_word round_over near_word finite magnitude
+words c =
+    let s = c in
+    let near = c.wrapping_add_u32-near in
+    let over = c.below_single-over in
+    let back = c.below_single-back in
+    let y = c.wrapping_sub_u32-y in
+    let z = c.below_single-z in
+    let up = near.result - bit_and near.result s.args.tail.ones in
+    let short : back.result < 2 ^ 32 = search rules in
+    let is : y.result ≡ (up + (2 ^ 32 - back.result)) % 2 ^ 32 = wrapped (2 ^ 32) y.result back.result up (search rules) short y.ensures.value in
+    c.settle_single.ensures ∙ rw (z.ensures, is, back.ensures, over.ensures, near.ensures.value) refl
+
+-- The words are those of `round_word` and `round_over`; every sum has room.
+pub overflow_sub-tail : goal.overflow_sub-tail
+overflow_sub-tail c =
+    let s = c in
+    omega (arith, s.requires.0.is_half, half_positive s.args.tail.bits (omega arith), pow_pos (s.args.tail.bits - 1))
+
+pub overflow_sub-up : goal.overflow_sub-up
+overflow_sub-up c = omega (arith, and_le_l c.wrapping_add_u32-near.result c.args.tail.ones)
+
+pub overflow_add-tail-2 : goal.overflow_add-tail-2
+overflow_add-tail-2 c =
+    let s = c in
+    omega (arith, s.requires.0.is_ones, pow_mono {i = s.args.tail.bits} {j = 23} (omega arith))
+
+pub returns : goal.returns
+returns c =
+    let s = c in record {result = words c ∙ settled_round 23 8 (constants_of s.args.tail) s.requires.0 s.args.mark s.args.x s.requires.1 (search rules); words = words c; }

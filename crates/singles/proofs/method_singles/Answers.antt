@@ -1,0 +1,24 @@
+-- The method's walk from the first turn on.
+use borrow.Author.Rules.{rules}
+use mathlib.Core.Path.{refl, ap₂, ◌∙◌}
+use mathlib.Core.Logic.{inl}
+use Prim.Native.Nat.{ℕ}
+use Rattle.meaning.specs.Methods.{turn_after}
+use Rattle.asking.specs.Asked.{method_by}
+use Rattle.reading.specs.Left.{settled_by}
+use Rattle.loops.specs.Walk.{walked_by, tallied_by}
+use Rattle.loops.proofs.Methods.{whole_walked, whole_tallied}
+use Rattle.singles.proofs.method_singles.Goals as goal
+
+pub job_single-job-requires : goal.job_single-job-requires
+job_single-job-requires c = c.requires
+
+pub part_singles-whole-requires : goal.part_singles-whole-requires
+part_singles-whole-requires c = (c.job_single-job.ensures.tail, inl refl)
+
+pub returns : goal.returns
+returns c =
+    let s = c.args in
+    let j = c.job_single-job in
+    let r = (c.part_singles-whole.ensures.sums, (c.part_singles-whole.ensures.add, c.part_singles-whole.ensures.content)) in
+    let ws = s.readings.now in record {sums = c.part_singles-whole.ensures.sums ∙ whole_tallied 23 8 j.result.method j.result.n s.mark ws ∙ ap₂ (λ (m n : ℕ). tallied_by (turn_after 23 8 s.mark) (settled_by 23 8 (method_by m n) s.mark) 0 ws) j.ensures.method j.ensures.setting; content = c.part_singles-whole.ensures.content ∙ whole_walked 23 8 j.result.method j.result.n s.mark ws ∙ ap₂ (λ (m n : ℕ). walked_by (turn_after 23 8 s.mark) (settled_by 23 8 (method_by m n) s.mark) 0 ws) j.ensures.method j.ensures.setting; }

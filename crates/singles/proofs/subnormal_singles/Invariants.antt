@@ -1,0 +1,12 @@
+use Prim.Native.Nat.{◌-◌, ◌≤◌}
+use native.Mathlib.Omega.{arith}
+use lib.ListN.{length, get_or}
+use Rattle.singles.proofs.Rest.{Found, few_subnormal, found_turn}
+use Rattle.singles.proofs.subnormal_singles.Given as goal
+
+-- The count's law at each turn.
+abbrev pub invariant-loop-i : goal.invariant-loop-i
+invariant-loop-i l = (l.i ≤ length l.readings) × Found l.readings l.i l.found
+
+abbrev pub decreases-loop-i : goal.decreases-loop-i
+decreases-loop-i l = length l.readings - l.i

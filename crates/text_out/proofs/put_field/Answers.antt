@@ -1,0 +1,21 @@
+use borrow.Author.Rules.{rules}
+use Rattle.text_out.proofs.FieldLaws.{field_room, field_done}
+use Rattle.text_out.proofs.put_field.Goals as goal
+
+pub bounds-out-p : goal.bounds-out-p
+bounds-out-p c =
+    let a = c.requires in
+    let e = (c.put_number-p.ensures.value, c.put_number-p.ensures.out_after) in
+    (field_room _ _ _ 0 _ _ a.0 a.1 c.put_number-p.ensures.value c.put_number-p.ensures.out_after).0
+
+pub overflow_add-result : goal.overflow_add-result
+overflow_add-result c =
+    let a = c.requires in
+    let e = (c.put_number-p.ensures.value, c.put_number-p.ensures.out_after) in
+    let r = (field_room _ _ _ 0 _ _ a.0 a.1 c.put_number-p.ensures.value c.put_number-p.ensures.out_after).1 in
+    search rules
+
+pub returns : goal.returns
+returns c =
+    let a = c.requires in
+    let e = (c.put_number-p.ensures.value, c.put_number-p.ensures.out_after) in let it = field_done _ _ _ c.args.left _ _ a.0 a.1 c.put_number-p.ensures.value c.put_number-p.ensures.out_after _ c.ending_byte-c.ensures in record { value = it.0; out_after = it.1; }
