@@ -7,6 +7,7 @@ ghost use Rattle.std.specs.Prelude.{◌+◌, ◌≤◌, length};
 use std::env::FillError;
 use std::io;
 use std::io::{ErrorKind, Read};
+use std::process::ExitCode;
 use std::rt::Env;
 
 // What one read brought: so many bytes, or the input's end, or why it can't be read. A read that a signal interrupted brings none of these.
@@ -88,13 +89,22 @@ fn fail<R: Eprint + AllocGlobal>(rt: &R, what: &str, error: io::Error) {
     };
 }
 
-fn write_answer<R: Print + Eprint + AllocGlobal>(rt: &R, answer: &[u8]) {
-    if let Err(error) = rt.write_all(answer) {
-        fail(
-            rt,
-            "trimlist: the answer could not be written to standard output",
-            error,
-        );
+// What a shell shows of a program that writes to a pipe whose reader has gone, and is ended for it.
+const NO_READER: u8 = 141;
+
+// Writes the answer; how the program is to end.
+fn write_answer<R: Print + Eprint + AllocGlobal>(rt: &R, answer: &[u8]) -> ExitCode {
+    match rt.write_all(answer) {
+        Ok(()) => ExitCode::SUCCESS,
+        Err(error) if error.kind() == ErrorKind::BrokenPipe => ExitCode::from(NO_READER),
+        Err(error) => {
+            fail(
+                rt,
+                "trimlist: the answer could not be written to standard output",
+                error,
+            );
+            ExitCode::SUCCESS
+        }
     }
 }
 
@@ -108,18 +118,19 @@ fn number_of(digit: u8) -> u32 {
 }
 
 // Writes what `listing` answers to a text. Of all answers only a refusal has 10 bytes, `refused,9` and the newline: then the reason goes to standard error.
-fn answer<R: Print + Eprint + AllocGlobal>(rt: &R, text: &[u8]) {
+fn answer<R: Print + Eprint + AllocGlobal>(rt: &R, text: &[u8]) -> ExitCode {
     let mut out = [0u8; 65536];
     let n = listing::listing(text, &mut out);
-    write_answer(rt, &out[..n]);
+    let end = write_answer(rt, &out[..n]);
     if n == 10 {
         text_reason::say(rt, text, number_of(out[8]));
     }
+    end
 }
 
 // The longest text that has the form has 37,052 bytes: 20 of the header, 32 of the job, 136 of the names and 512 lines of 72. Once 37,053 bytes
 // are read the text is refused with 9 whatever follows them, so no more is read.
-fn run<R: std::io::Input + Print + Eprint + AllocGlobal>(rt: &R) {
+fn run<R: io::Input + Print + Eprint + AllocGlobal>(rt: &R) -> ExitCode {
     let mut text = [0u8; 37053];
     let input = read_input(&mut rt.reader(), &mut text);
     if let Some(error) = input.failed {
@@ -128,11 +139,10 @@ fn run<R: std::io::Input + Print + Eprint + AllocGlobal>(rt: &R) {
             "trimlist: standard input could not be read to its end",
             error,
         );
-        write_answer(rt, b"refused,9\n");
-        return;
+        return write_answer(rt, b"refused,9\n");
     }
     let n = input.bytes;
-    answer(rt, &text[..n]);
+    answer(rt, &text[..n])
 }
 
 // The program takes no argument: whatever it is given, it says what it is. On standard error, so that no file takes this for an answer.
@@ -148,10 +158,10 @@ fn has_argument(rt: &impl Env) -> bool {
     !matches!(rt.arg(1, &mut start), Err(FillError::NotPresent))
 }
 
-fn main(rt: HostRuntime) {
+fn main(rt: HostRuntime) -> ExitCode {
     if has_argument(&rt) {
         about(&rt);
-        return;
+        return ExitCode::SUCCESS;
     }
-    run(&rt);
+    run(&rt)
 }
