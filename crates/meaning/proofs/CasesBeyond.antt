@@ -6,13 +6,9 @@ use Prim.Native.Nat.{ℕ, ◌+◌, ◌*◌, ◌^◌, ◌≤◌, ◌<◌}
 use native.Mathlib.Omega.{arith}
 use lib.Dec.{ltb, lit≤}
 use lib.IntN.{pos}
-use Rattle.meaning.specs.Readings
 use Rattle.meaning.specs.Readings.{magnitude, position, distance}
 use Rattle.meaning.specs.Methods.{unit}
-use Rattle.meaning.specs.Methods
-use Rattle.meaning.specs.Layers.{Layer, code_meaning}
-use Rattle.meaning.specs.Questions
-use Rattle.meaning.specs.Calls
+use Rattle.meaning.specs.Layers.{code_meaning}
 use Rattle.meaning.specs.Calls.{Call, accepted_calls, largest_unit, stored_layer}
 use Rattle.meaning.specs.Claim.{rounds, changes_tail, one_kind}
 use Rattle.meaning.proofs.CasesRows.{shave, set, round, absolute, after_all, after, packed, packed_wide, layer}

@@ -6,7 +6,6 @@ use native.Mathlib.Decide.{dec_lt}
 use native.Mathlib.Omega.{arith}
 use borrow.Author.Tests.{lt-ltb, le-ltb}
 use lib.Arith.{digits_mod}
-use lib.Dec.{ltb}
 use Rattle.meaning.specs.Methods.{nearest}
 
 -- below half, above half, and a tie, which goes to the even number

@@ -7,7 +7,7 @@ use native.Mathlib.Nat.{mod-lt, le-div_iff_mul-le, div-add-mod', zero-mul, zero-
 use native.Mathlib.Numerals.{sub-one}
 use native.Mathlib.Decide.{dec_lt}
 use native.Mathlib.Omega.{arith}
-use lib.Dec.{T, ltb, eqb, eqb-suc-zero}
+use lib.Dec.{ltb, eqb-suc-zero}
 use borrow.Author.Tests.{ltb-true, ltb-false, lt-ltb, le-ltb}
 use lib.Pow.{pow_pos, pow_mono, high, low, shr_mono}
 use Rattle.meaning.specs.Readings.{exponent_field, fraction, spacing_exp, size, encode}

@@ -5,7 +5,7 @@ use mathlib.Core.Path.{◌≡◌, refl, sym, ap, ◌∙◌}
 use mathlib.Core.Logic.{◌≢◌}
 use mathlib.Core.Bool.{true, cond}
 use mathlib.Core.List.{List, [], ◌∷◌, ◌++◌, zip_with}
-use Prim.Native.Nat.{ℕ, zero, suc, ◌+◌, ◌-◌, ◌*◌, ◌/◌, ◌%◌, ◌^◌, ◌≤◌, ◌<◌, zero-le, suc-le-suc}
+use Prim.Native.Nat.{ℕ, zero, suc, ◌+◌, ◌*◌, ◌/◌, ◌%◌, ◌^◌, ◌≤◌, ◌<◌, zero-le, suc-le-suc}
 use native.Mathlib.Nat.{mod-lt, zero-mul}
 use native.Mathlib.Decide.{ℕ_discrete}
 use native.Mathlib.Omega.{arith}
@@ -16,7 +16,7 @@ use lib.ListN.{length, get_or, take, drop, length-drop, take-append-drop}
 use Rattle.meaning.specs.Readings.{size, sign, magnitude, infinity, magnitude_of, origin, position, distance, missing}
 use Rattle.meaning.specs.Methods.{Method}
 use Rattle.meaning.specs.Layers.{Layer, missing_code, last_code, runs, layers, layer_of, code_meaning}
-use Rattle.meaning.specs.Questions.{accepted, ask, all, code_in_range}
+use Rattle.meaning.specs.Questions.{accepted, ask, code_in_range}
 use Rattle.meaning.specs.Calls.{Call, AfterPack, answering, in_turn, accepted_calls, largest_unit, pack, stored_layers}
 use Rattle.meaning.specs.Claim.{one_kind, Coded, layer_at}
 use Rattle.meaning.specs.Totals.{Totals, in_order_sum, one_present, if_present, totals_of, totals_questions, totals, lane_from, Joined, signed_sum, signed_size, exact_meaning, meanings_total, exact_total, readings_total, units_total, units_left, present_in, LayerTotal, SentTotal, over_layers, year_total, year_steps, YearSent, part_at, TotalsClaim}
