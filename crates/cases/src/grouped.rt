@@ -58,7 +58,7 @@ fn in_array(readings: [u32; 4], by: u32, setting: i32, missing: u32) -> [u32; 4]
 }
 
 // Four singles: their planes after a trim there. And that what comes back from these planes is what the trim leaves of the array.
-pub fn grouped(row: &[u8]) -> bool {
+pub fn grouped(out: &impl Print, row: &[u8]) -> bool {
     let readings = singles(row, 4);
     let missing = mark(row, 5);
     let expected = singles(row, 6);
@@ -68,21 +68,22 @@ pub fn grouped(row: &[u8]) -> bool {
     let back = got.readings;
     let bytes = got.planes;
     let planes = each_plane(bytes);
-    let at = put_singles(start_list(row), readings, 4);
+    let at = put_singles(out, start_list(out, row), readings, 4);
     let at = put_text(
-        put_call(put_text(at, b" "), by, setting),
+        out,
+        put_call(out, put_text(out, at, b" "), by, setting),
         b" in planes, mark",
     );
-    single_at(at, 0, missing);
-    end();
-    put_singles(expecting(), expected, 4);
-    end();
-    let at = put_text(put_singles(getting(), planes, 4), b" ");
+    single_at(out, at, 0, missing);
+    end(out);
+    put_singles(out, expecting(out), expected, 4);
+    end(out);
+    let at = put_text(out, put_singles(out, getting(out), planes, 4), b" ");
     let ok = count(row, 4) == 4
         && count(row, 6) == 4
         && same_singles(planes, expected)
         && same_singles(back, in_array(readings, by, setting, missing));
-    judge_accepted(row, at, ok, got.refused)
+    judge_accepted(out, row, at, ok, got.refused)
 }
 
 // The refusal's number of a trim in a buffer of n bytes, at most 20, or 0.
@@ -101,11 +102,15 @@ fn asked_of(n: usize, told: u64, by: u32, setting: i32) -> u32
 }
 
 // The questions of trimming in planes: a buffer of whole readings and more bytes, and the number of readings that is told.
-pub fn held(row: &[u8]) -> bool {
+pub fn held(out: &impl Print, row: &[u8]) -> bool {
     let bytes = 4 * length_of(row, 4) + length_of(row, 5);
     let told = hex(row, 6);
     let got = asked_of(bytes, told, method(row, 2), signed(row, 3));
-    let at = put_number(put_text(start_call(row), b", "), bytes as u64);
-    let at = put_number(put_text(at, b" bytes, told "), told);
-    answered(row, at, refusal(row, 7), got, true)
+    let at = put_number(
+        out,
+        put_text(out, start_call(out, row), b", "),
+        bytes as u64,
+    );
+    let at = put_number(out, put_text(out, at, b" bytes, told "), told);
+    answered(out, row, at, refusal(row, 7), got, true)
 }

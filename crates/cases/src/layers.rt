@@ -115,6 +115,7 @@ fn pack(
 }
 
 fn put_layers(
+    out: &impl Print,
     at: usize,
     references: [u32; 4],
     exponents: [i32; 4],
@@ -122,13 +123,13 @@ fn put_layers(
     codes: [u16; 4],
     n: usize,
 ) -> usize {
-    let at = put_singles(put_text(at, b" R"), references, layers);
-    let at = put_exponents(put_text(at, b" E"), exponents, layers);
-    put_codes(put_text(at, b" codes"), codes, n)
+    let at = put_singles(out, put_text(out, at, b" R"), references, layers);
+    let at = put_exponents(out, put_text(out, at, b" E"), exponents, layers);
+    put_codes(out, put_text(out, at, b" codes"), codes, n)
 }
 
 // Singles packed into as many layers as there are references, with document 01's mark.
-pub fn layers(row: &[u8]) -> bool {
+pub fn layers(out: &impl Print, row: &[u8]) -> bool {
     let length = decimal(row, 2);
     let bits = widths(row, 3);
     let readings = singles(row, 4);
@@ -151,21 +152,38 @@ pub fn layers(row: &[u8]) -> bool {
     let got_references = got.references;
     let got_steps = got.exponents;
     let got_codes = got.codes;
-    let at = put_text(put_singles(start_list(row), readings, n), b" L ");
-    put_numbers(put_text(put_number(at, length), b" widths"), bits, number);
-    end();
-    put_layers(expecting(), references, steps, number, all, n);
-    end();
-    let at = put_layers(getting(), got_references, got_steps, number, got_codes, n);
+    let at = put_text(
+        out,
+        put_singles(out, start_list(out, row), readings, n),
+        b" L ",
+    );
+    put_numbers(
+        out,
+        put_text(out, put_number(out, at, length), b" widths"),
+        bits,
+        number,
+    );
+    end(out);
+    put_layers(out, expecting(out), references, steps, number, all, n);
+    end(out);
+    let at = put_layers(
+        out,
+        getting(out),
+        got_references,
+        got_steps,
+        number,
+        got_codes,
+        n,
+    );
     let ok = same_singles(got_references, references)
         && same_exponents(got_steps, steps)
         && same_codes(got_codes, all);
-    judge_accepted(row, put_text(at, b" "), ok, got.number != 0)
+    judge_accepted(out, row, put_text(out, at, b" "), ok, got.number != 0)
 }
 
-fn put_count(at: usize, n: usize, what: &[u8]) -> usize {
-    let at = put_number(put_text(at, b", "), n as u64);
-    put_text(put_text(at, b" "), what)
+fn put_count(out: &impl Print, at: usize, n: usize, what: &[u8]) -> usize {
+    let at = put_number(out, put_text(out, at, b", "), n as u64);
+    put_text(out, put_text(out, at, b" "), what)
 }
 
 // Do the arrays hold what they held before?
@@ -179,7 +197,7 @@ fn untouched(left: Packs) -> bool {
 }
 
 // Packing's questions, with document 01's mark: lengths of the arrays, at most 4, and the refusal's number, or 0. Refused, nothing is written.
-pub fn asked_pack(row: &[u8]) -> bool {
+pub fn asked_pack(out: &impl Print, row: &[u8]) -> bool {
     let length = decimal(row, 2);
     let bits = widths(row, 3);
     let m = count(row, 3);
@@ -187,12 +205,12 @@ pub fn asked_pack(row: &[u8]) -> bool {
     let codes = length_of(row, 5);
     let references = length_of(row, 6);
     let exponents = length_of(row, 7);
-    let at = put_number(put_text(start(row), b"pack, L "), length);
-    let at = put_numbers(put_text(at, b", widths"), bits, m);
-    let at = put_count(at, n, b"readings");
-    let at = put_count(at, codes, b"codes");
-    let at = put_count(at, references, b"R");
-    let at = put_count(at, exponents, b"E");
+    let at = put_number(out, put_text(out, start(out, row), b"pack, L "), length);
+    let at = put_numbers(out, put_text(out, at, b", widths"), bits, m);
+    let at = put_count(out, at, n, b"readings");
+    let at = put_count(out, at, codes, b"codes");
+    let at = put_count(out, at, references, b"R");
+    let at = put_count(out, at, exponents, b"E");
     let readings = singles(row, 4);
     let got = pack(
         BEFORE,
@@ -207,7 +225,7 @@ pub fn asked_pack(row: &[u8]) -> bool {
     );
     let expected = refusal(row, 8);
     let ok = expected == 0 || untouched(got);
-    answered(row, at, expected, got.number, ok)
+    answered(out, row, at, expected, got.number, ok)
 }
 
 // What an unpacking left, and the refusal's number, 0 for none.
@@ -260,7 +278,7 @@ fn unpack(
 }
 
 // The codes of one layer, unpacked into doubles.
-pub fn unpacked(row: &[u8]) -> bool {
+pub fn unpacked(out: &impl Print, row: &[u8]) -> bool {
     let bits = width(row, 2);
     let all = codes(row, 3);
     let n = count(row, 3);
@@ -272,25 +290,35 @@ pub fn unpacked(row: &[u8]) -> bool {
         0, [bits; 4], 1, all, n, references, 1, steps, 1, n, missing, n,
     );
     let readings = got.readings;
-    let at = put_number(put_text(start_list(row), b" width "), bits as u64);
-    let at = put_layers(at, references, steps, 1, all, n);
-    double_at(put_text(at, b" mark"), 0, missing);
-    end();
-    put_doubles(expecting(), expected, n);
-    end();
-    let at = put_text(put_doubles(getting(), readings, n), b" ");
-    judge_accepted(row, at, same_doubles(readings, expected), got.number != 0)
+    let at = put_number(
+        out,
+        put_text(out, start_list(out, row), b" width "),
+        bits as u64,
+    );
+    let at = put_layers(out, at, references, steps, 1, all, n);
+    double_at(out, put_text(out, at, b" mark"), 0, missing);
+    end(out);
+    put_doubles(out, expecting(out), expected, n);
+    end(out);
+    let at = put_text(out, put_doubles(out, getting(out), readings, n), b" ");
+    judge_accepted(
+        out,
+        row,
+        at,
+        same_doubles(readings, expected),
+        got.number != 0,
+    )
 }
 
 // The last columns of a case about unpacking's questions. Refused, nothing is written.
-fn refused_or(row: &[u8], at: usize, expected: u32, left: Unpacks) -> bool {
+fn refused_or(out: &impl Print, row: &[u8], at: usize, expected: u32, left: Unpacks) -> bool {
     let readings = left.readings;
     let ok = expected == 0 || same_doubles(readings, [BEFORE as u64; 4]);
-    answered(row, at, expected, left.number, ok)
+    answered(out, row, at, expected, left.number, ok)
 }
 
 // Unpacking's questions on lengths of the arrays, at most 4: the refusal's number, or 0.
-pub fn asked_unpack(row: &[u8]) -> bool {
+pub fn asked_unpack(out: &impl Print, row: &[u8]) -> bool {
     let length = decimal(row, 2);
     let bits = widths(row, 3);
     let m = count(row, 3);
@@ -298,12 +326,12 @@ pub fn asked_unpack(row: &[u8]) -> bool {
     let references = length_of(row, 5);
     let exponents = length_of(row, 6);
     let readings = length_of(row, 7);
-    let at = put_number(put_text(start(row), b"unpack, L "), length);
-    let at = put_numbers(put_text(at, b", widths"), bits, m);
-    let at = put_count(at, codes, b"codes");
-    let at = put_count(at, references, b"R");
-    let at = put_count(at, exponents, b"E");
-    let at = put_count(at, readings, b"readings");
+    let at = put_number(out, put_text(out, start(out, row), b"unpack, L "), length);
+    let at = put_numbers(out, put_text(out, at, b", widths"), bits, m);
+    let at = put_count(out, at, codes, b"codes");
+    let at = put_count(out, at, references, b"R");
+    let at = put_count(out, at, exponents, b"E");
+    let at = put_count(out, at, readings, b"readings");
     let got = unpack(
         BEFORE,
         bits,
@@ -318,21 +346,21 @@ pub fn asked_unpack(row: &[u8]) -> bool {
         MARK_DOUBLE,
         readings,
     );
-    refused_or(row, at, refusal(row, 8), got)
+    refused_or(out, row, at, refusal(row, 8), got)
 }
 
 // Unpacking's questions on a layer of one code and on the double mark.
-pub fn asked_layer(row: &[u8]) -> bool {
+pub fn asked_layer(out: &impl Print, row: &[u8]) -> bool {
     let bits = width(row, 2);
     let code = codes(row, 3);
     let reference = single(row, 4);
     let exponent = signed(row, 5);
     let missing = mark_double(row, 6);
-    let at = put_number(put_text(start(row), b"width "), bits as u64);
-    let at = put_codes(put_text(at, b", code"), code, 1);
-    let at = single_at(put_text(at, b", R"), 0, reference);
-    let at = put_signed(put_text(at, b", E "), exponent);
-    let at = double_at(put_text(at, b", mark"), 0, missing);
+    let at = put_number(out, put_text(out, start(out, row), b"width "), bits as u64);
+    let at = put_codes(out, put_text(out, at, b", code"), code, 1);
+    let at = single_at(out, put_text(out, at, b", R"), 0, reference);
+    let at = put_signed(out, put_text(out, at, b", E "), exponent);
+    let at = double_at(out, put_text(out, at, b", mark"), 0, missing);
     let got = unpack(
         BEFORE,
         [bits; 4],
@@ -347,5 +375,5 @@ pub fn asked_layer(row: &[u8]) -> bool {
         missing,
         1,
     );
-    refused_or(row, at, refusal(row, 7), got)
+    refused_or(out, row, at, refusal(row, 7), got)
 }

@@ -63,40 +63,44 @@ fn same_seen(a: Seen, b: Seen) -> bool {
         && a.read == b.read
 }
 
-fn put_place(at: usize, s: Seen) -> usize {
+fn put_place(out: &impl Print, at: usize, s: Seen) -> usize {
     if s.found {
-        return put_number(put_text(at, b" place "), s.place);
+        return put_number(out, put_text(out, at, b" place "), s.place);
     }
     if s.refusal == 0 {
-        return put_text(at, b" none");
+        return put_text(out, at, b" none");
     }
     at
 }
 
-fn put_seen(start: usize, s: Seen) -> usize {
+fn put_seen(out: &impl Print, start: usize, s: Seen) -> usize {
     let mut at = start;
     if s.refusal != 0 {
-        at = put_number(put_text(at, b" refused "), s.refusal as u64);
+        at = put_number(out, put_text(out, at, b" refused "), s.refusal as u64);
     }
-    at = put_place(at, s);
+    at = put_place(out, at, s);
     if s.counted {
-        return put_number(put_text(at, b", read "), s.read);
+        return put_number(out, put_text(out, at, b", read "), s.read);
     }
     at
 }
 
 // The limit, behind the two lists and before the mark.
-fn put_limit(at: usize, p: i32) -> usize {
-    put_text(put_signed(put_text(at, b", limit 2^"), p), b", mark")
+fn put_limit(out: &impl Print, at: usize, p: i32) -> usize {
+    put_text(
+        out,
+        put_signed(out, put_text(out, at, b", limit 2^"), p),
+        b", mark",
+    )
 }
 
 // The two lines behind what is given, and the verdict.
-fn judge_seen(row: &[u8], got: Seen) -> bool {
-    end();
-    put_seen(expecting(), expected(row));
-    end();
-    let at = put_text(put_seen(getting(), got), b" ");
-    judge(row, at, same_seen(got, expected(row)))
+fn judge_seen(out: &impl Print, row: &[u8], got: Seen) -> bool {
+    end(out);
+    put_seen(out, expecting(out), expected(row));
+    end(out);
+    let at = put_text(out, put_seen(out, getting(out), got), b" ");
+    judge(out, row, at, same_seen(got, expected(row)))
 }
 
 // The first n singles beside the first m, of lists of up to four.
@@ -114,7 +118,7 @@ fn compared_doubles(raw: [u64; 4], n: usize, trimmed: [u64; 4], m: usize, mark: 
 }
 
 // Up to four singles as they were sent, beside as many as they were trimmed.
-pub fn exceeds(row: &[u8]) -> bool {
+pub fn exceeds(out: &impl Print, row: &[u8]) -> bool {
     let p = signed(row, 2);
     let raw = singles(row, 3);
     let trimmed = singles(row, 4);
@@ -122,13 +126,22 @@ pub fn exceeds(row: &[u8]) -> bool {
     let m = count(row, 4);
     let missing = mark(row, 5);
     let got = compared(raw, n, trimmed, m, missing, p);
-    let at = put_text(put_singles(start_list(row), raw, n), b" beside");
-    single_at(put_limit(put_singles(at, trimmed, m), p), 0, missing);
-    judge_seen(row, got)
+    let at = put_text(
+        out,
+        put_singles(out, start_list(out, row), raw, n),
+        b" beside",
+    );
+    single_at(
+        out,
+        put_limit(out, put_singles(out, at, trimmed, m), p),
+        0,
+        missing,
+    );
+    judge_seen(out, row, got)
 }
 
 // The same of doubles.
-pub fn outside(row: &[u8]) -> bool {
+pub fn outside(out: &impl Print, row: &[u8]) -> bool {
     let p = signed(row, 2);
     let raw = doubles(row, 3);
     let trimmed = doubles(row, 4);
@@ -136,7 +149,16 @@ pub fn outside(row: &[u8]) -> bool {
     let m = count(row, 4);
     let missing = mark_double(row, 5);
     let got = compared_doubles(raw, n, trimmed, m, missing, p);
-    let at = put_text(put_doubles(start_list(row), raw, n), b" beside");
-    double_at(put_limit(put_doubles(at, trimmed, m), p), 0, missing);
-    judge_seen(row, got)
+    let at = put_text(
+        out,
+        put_doubles(out, start_list(out, row), raw, n),
+        b" beside",
+    );
+    double_at(
+        out,
+        put_limit(out, put_doubles(out, at, trimmed, m), p),
+        0,
+        missing,
+    );
+    judge_seen(out, row, got)
 }

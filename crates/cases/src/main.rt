@@ -4,34 +4,65 @@
 // document and never from what the program printed. `kinds.rt` has how a row of each kind is written.
 #![tactic(auto)]
 
+ghost use Rattle.std.specs.Prelude.{◌≤◌, length};
+
 mod grouped;
 mod kinds;
 mod layers;
 mod limits;
-mod rows;
+mod sheet_rows;
 mod sums;
 mod texts;
 mod trims;
 
+use sheet_rows::{rows, too_long};
+use std::env::FillError;
+use std::io::Read;
+use std::rt::Env;
+
+// Was the program given an argument?
+fn has_argument(rt: &impl Env) -> bool {
+    let mut start = [0u8; 1];
+    !matches!(rt.arg(1, &mut start), Err(FillError::NotPresent))
+}
+
 // The program takes no argument: whoever names a sheet as one should see at once that it reads standard input.
-fn about() {
-    io::write_all(
-        libc::STDERR_FILENO,
-        b"cases runs the cases of the sheet that it reads from standard input: cases <sheet\n",
+fn about(rt: &impl Eprint) {
+    let _ = rt.eprint(
+        "cases runs the cases of the sheet that it reads from standard input: cases <sheet\n",
     );
 }
 
-fn main() {
-    if os::arg_count() > 1 {
-        about();
-        return;
+// Reads until `text` is full, the input ends or a read fails: how many bytes came.
+fn read_full(input: &mut impl Read, text: &mut [u8]) -> usize
+    ensures { result ≤ length text.new }
+{
+    let mut bytes: usize = 0;
+    while bytes < text.len() {
+        match input.read(&mut text[bytes..]) {
+            Ok(0) | Err(_) => return bytes,
+            Ok(more) => bytes += more,
+        }
     }
-    let mut text = io::large_buffer();
-    let n = io::read_full(libc::STDIN_FILENO, &mut text);
+    bytes
+}
+
+fn run(rt: &(impl Input + Print)) {
+    let mut input = rt.reader();
+    let mut text = [0u8; 65536];
+    let n = read_full(&mut input, &mut text);
     let mut more = [0u8; 1];
-    if n == 65536 && io::read_full(libc::STDIN_FILENO, &mut more) > 0 {
-        rows::too_long();
+    if n == 65536 && read_full(&mut input, &mut more) > 0 {
+        too_long(rt);
         return;
     }
-    rows::rows(&text[..n]);
+    rows(rt, &text[..n]);
+}
+
+fn main(rt: HostRuntime) {
+    if has_argument(&rt) {
+        about(&rt);
+        return;
+    }
+    run(&rt);
 }

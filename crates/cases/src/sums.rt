@@ -52,19 +52,23 @@ fn same_summed(a: Summed, b: Summed) -> bool {
         && a.sum == b.sum
 }
 
-fn put_summed(start: usize, s: Summed) -> usize {
+fn put_summed(out: &impl Print, start: usize, s: Summed) -> usize {
     let mut at = start;
     if s.refusal != 0 {
-        at = put_number(put_text(at, b" refused "), s.refusal as u64);
+        at = put_number(out, put_text(out, at, b" refused "), s.refusal as u64);
     }
     if s.counted {
-        at = put_text(put_number(put_text(at, b" "), s.count), b" present");
+        at = put_text(
+            out,
+            put_number(out, put_text(out, at, b" "), s.count),
+            b" present",
+        );
     }
     if s.counted && s.added {
-        at = put_text(at, b",");
+        at = put_text(out, at, b",");
     }
     if s.added {
-        return put_number(put_text(at, b" sum "), s.sum);
+        return put_number(out, put_text(out, at, b" sum "), s.sum);
     }
     at
 }
@@ -77,16 +81,20 @@ fn of_codes(all: [u16; 4], n: usize, bits: u32) -> Summed
 }
 
 // The codes of one layer: how many are present, and their sum.
-pub fn number(row: &[u8]) -> bool {
+pub fn number(out: &impl Print, row: &[u8]) -> bool {
     let bits = width(row, 2);
     let all = codes(row, 3);
     let n = count(row, 3);
     let got = of_codes(all, n, bits);
-    let at = put_number(put_text(start_list(row), b" width "), bits as u64);
-    put_codes(put_text(at, b" codes"), all, n);
-    end();
-    put_summed(expecting(), expected(row));
-    end();
-    let at = put_text(put_summed(getting(), got), b" ");
-    judge(row, at, same_summed(got, expected(row)))
+    let at = put_number(
+        out,
+        put_text(out, start_list(out, row), b" width "),
+        bits as u64,
+    );
+    put_codes(out, put_text(out, at, b" codes"), all, n);
+    end(out);
+    put_summed(out, expecting(out), expected(row));
+    end(out);
+    let at = put_text(out, put_summed(out, getting(out), got), b" ");
+    judge(out, row, at, same_summed(got, expected(row)))
 }

@@ -34,27 +34,27 @@ fn unfolded(s: &[u8], out: &mut [u8]) -> usize
 }
 
 // The lines of a text's case: what was given, what was expected and what came, both as they stand and unfolded.
-fn judge_text(row: &[u8], got: &[u8], expected: &[u8]) -> bool {
-    put_text(start(row), field(row, 2));
-    end();
-    put_text(put_text(expecting(), b" "), field(row, 3));
-    end();
-    let at = put_shown(put_text(getting(), b" "), got);
-    judge(row, put_text(at, b" "), check::same(got, expected))
+fn judge_text(out: &impl Print, row: &[u8], got: &[u8], expected: &[u8]) -> bool {
+    put_text(out, start(out, row), field(row, 2));
+    end(out);
+    put_text(out, put_text(out, expecting(out), b" "), field(row, 3));
+    end(out);
+    let at = put_shown(out, put_text(out, getting(out), b" "), got);
+    judge(out, row, put_text(out, at, b" "), got == expected)
 }
 
 // What `listing` answers to a text.
-fn listed(row: &[u8], text: &[u8], expected: &[u8]) -> bool {
-    let mut out = io::large_buffer();
-    let n = listing::listing(text, &mut out);
-    judge_text(row, &out[..n], expected)
+fn listed(out: &impl Print, row: &[u8], text: &[u8], expected: &[u8]) -> bool {
+    let mut answer = [0u8; 65536];
+    let n = listing::listing(text, &mut answer);
+    judge_text(out, row, &answer[..n], expected)
 }
 
 // A whole text, with \n where a line ends.
-pub fn file(row: &[u8]) -> bool {
+pub fn file(out: &impl Print, row: &[u8]) -> bool {
     let mut input = [0u8; 400];
     let n = unfolded(field(row, 2), &mut input);
     let mut output = [0u8; 400];
     let m = unfolded(field(row, 3), &mut output);
-    listed(row, &input[..n], &output[..m])
+    listed(out, row, &input[..n], &output[..m])
 }

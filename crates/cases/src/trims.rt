@@ -85,15 +85,15 @@ fn fate_of(answer: trim::Answer, to: Way) -> u32 {
 }
 
 // The columns of a case about one single: what was given, what was expected, what came.
-fn columns(at: usize, x: u32, mark: u32, expected: u32, got: u32) -> usize {
-    let at = single_at(at, 44, x);
-    let at = single_at(at, 54, mark);
-    let at = single_at(at, 64, expected);
-    fill(single_at(at, 74, got), 84)
+fn columns(out: &impl Print, at: usize, x: u32, mark: u32, expected: u32, got: u32) -> usize {
+    let at = single_at(out, at, 44, x);
+    let at = single_at(out, at, 54, mark);
+    let at = single_at(out, at, 64, expected);
+    fill(out, single_at(out, at, 74, got), 84)
 }
 
 // One single: an array of one, and the loader's call at turn 0, which must agree with it.
-pub fn one_single(row: &[u8]) -> bool {
+pub fn one_single(out: &impl Print, row: &[u8]) -> bool {
     let by = method(row, 2);
     let setting = signed(row, 3);
     let x = single(row, 4);
@@ -105,14 +105,14 @@ pub fn one_single(row: &[u8]) -> bool {
     let to = went(x >= 0x8000_0000, got == x, got > x);
     let got_fate = fate_of(answer, to);
     let loaded = trim::trim_single(x, by, setting, missing, 0);
-    let at = columns(start_call(row), x, missing, expected, got);
+    let at = columns(out, start_call(out, row), x, missing, expected, got);
     let told = loaded % 4294967296 == expected as u64 && loaded / 4294967296 == gain(to);
     let ok = got == expected && told && got_fate == fate(row, 7);
-    judge_fate(row, at, ok, got_fate)
+    judge_fate(out, row, at, ok, got_fate)
 }
 
 // One single through two calls, the second on what the first left.
-pub fn twice(row: &[u8]) -> bool {
+pub fn twice(out: &impl Print, row: &[u8]) -> bool {
     let second = method(row, 8);
     let setting = signed(row, 9);
     let x = single(row, 4);
@@ -122,9 +122,17 @@ pub fn twice(row: &[u8]) -> bool {
     let before = trim::trim_singles(&mut readings, method(row, 2), signed(row, 3), missing);
     let answer = trim::trim_singles(&mut readings, second, setting, missing);
     let got = readings[0];
-    let at = put_text(start_call(row), b", ");
-    let at = columns(put_call(at, second, setting), x, missing, expected, got);
+    let at = put_text(out, start_call(out, row), b", ");
+    let at = columns(
+        out,
+        put_call(out, at, second, setting),
+        x,
+        missing,
+        expected,
+        got,
+    );
     judge_accepted(
+        out,
         row,
         at,
         got == expected,
@@ -133,44 +141,50 @@ pub fn twice(row: &[u8]) -> bool {
 }
 
 // A paper's row about pi, with its bits as they are printed there.
-pub fn paper(row: &[u8]) -> bool {
+pub fn paper(out: &impl Print, row: &[u8]) -> bool {
     let expected = bits(row, 4);
     let mut readings = [PI];
     let answer = trim::trim_singles(&mut readings, method(row, 2), signed(row, 3), MARK);
     let got = readings[0];
-    let at = fill(start_call(row), 36);
-    let at = put_text(at, field(row, 4));
-    let at = single_at(at, 72, expected);
-    let at = single_at(at, 82, got);
-    judge_accepted(row, fill(at, 92), got == expected, is_refused(answer))
+    let at = fill(out, start_call(out, row), 36);
+    let at = put_text(out, at, field(row, 4));
+    let at = single_at(out, at, 72, expected);
+    let at = single_at(out, at, 82, got);
+    judge_accepted(
+        out,
+        row,
+        fill(out, at, 92),
+        got == expected,
+        is_refused(answer),
+    )
 }
 
 // The loader's call at any turn; its answer is a 64-bit number.
-pub fn loader(row: &[u8]) -> bool {
+pub fn loader(out: &impl Print, row: &[u8]) -> bool {
     let x = single(row, 4);
     let turn = hex(row, 5);
     let expected = hex(row, 6);
     let got = trim::trim_single(x, method(row, 2), signed(row, 3), MARK, turn);
-    let at = put_text(start_call(row), b" at ");
-    let at = single_at(put_number(at, turn), 56, x);
-    let at = double_at(at, 66, expected);
-    let at = double_at(at, 84, got);
-    judge(row, fill(at, 102), got == expected)
+    let at = put_text(out, start_call(out, row), b" at ");
+    let at = single_at(out, put_number(out, at, turn), 56, x);
+    let at = double_at(out, at, 66, expected);
+    let at = double_at(out, at, 84, got);
+    judge(out, row, fill(out, at, 102), got == expected)
 }
 
 // One double, with a NaN for the mark.
-pub fn double(row: &[u8]) -> bool {
+pub fn double(out: &impl Print, row: &[u8]) -> bool {
     let x = hex(row, 4);
     let expected = hex(row, 6);
     let mut readings = [x];
     let answer = trim::trim_doubles(&mut readings, method(row, 2), signed(row, 3), MARK_DOUBLE);
     let got = readings[0];
     let got_fate = fate_of(answer, went(x >= 0x8000_0000_0000_0000, got == x, got > x));
-    let at = double_at(start_call(row), 38, x);
-    let at = double_at(at, 56, expected);
-    let at = double_at(at, 74, got);
+    let at = double_at(out, start_call(out, row), 38, x);
+    let at = double_at(out, at, 56, expected);
+    let at = double_at(out, at, 74, got);
     let ok = got == expected && got_fate == fate(row, 7);
-    judge_fate(row, fill(at, 92), ok, got_fate)
+    judge_fate(out, row, fill(out, at, 92), ok, got_fate)
 }
 
 pub fn number_of(answer: trim::Answer) -> u32 {
@@ -192,28 +206,28 @@ pub fn is_refused(answer: trim::Answer) -> bool {
 }
 
 // A trim's questions, put to an array of one single and to the loader's call: the refusal's number, or 0 for an accepted call. Refused, the reading stays.
-pub fn asked(row: &[u8]) -> bool {
+pub fn asked(out: &impl Print, row: &[u8]) -> bool {
     let by = method(row, 2);
     let setting = signed(row, 3);
     let expected = refusal(row, 6);
     let mut readings = [PI];
     let answer = trim::trim_singles(&mut readings, by, setting, MARK);
     let loaded = trim::trim_single(PI, by, setting, MARK, 0);
-    let at = put_text(start_call(row), b", singles");
+    let at = put_text(out, start_call(out, row), b", singles");
     let above = loaded / 4294967296;
     let ok = expected == 0 && (above == 0 || above == 2 || above == 4)
         || readings[0] == PI && loaded == 4294967296 + expected as u64;
-    answered(row, at, expected, number_of(answer), ok)
+    answered(out, row, at, expected, number_of(answer), ok)
 }
 
 // The same for doubles.
-pub fn asked_double(row: &[u8]) -> bool {
+pub fn asked_double(out: &impl Print, row: &[u8]) -> bool {
     let expected = refusal(row, 6);
     let mut readings = [PI_DOUBLE];
     let answer = trim::trim_doubles(&mut readings, method(row, 2), signed(row, 3), MARK_DOUBLE);
-    let at = put_text(start_call(row), b", doubles");
+    let at = put_text(out, start_call(out, row), b", doubles");
     let ok = expected == 0 || readings[0] == PI_DOUBLE;
-    answered(row, at, expected, number_of(answer), ok)
+    answered(out, row, at, expected, number_of(answer), ok)
 }
 
 pub fn same_singles(a: [u32; 4], b: [u32; 4]) -> bool {
@@ -240,7 +254,7 @@ fn trimmed(readings: [u32; 4], n: usize, by: u32, setting: i32, missing: u32) ->
 }
 
 // Up to four singles as one array.
-pub fn array(row: &[u8]) -> bool {
+pub fn array(out: &impl Print, row: &[u8]) -> bool {
     let readings = singles(row, 4);
     let n = count(row, 4);
     let missing = mark(row, 5);
@@ -249,12 +263,16 @@ pub fn array(row: &[u8]) -> bool {
     let setting = signed(row, 3);
     let got = trimmed(readings, n, by, setting, missing);
     let left = got.readings;
-    let at = put_singles(start_list(row), readings, n);
-    let at = put_text(put_call(put_text(at, b" "), by, setting), b", mark");
-    single_at(at, 0, missing);
-    end();
-    put_singles(expecting(), expected, n);
-    end();
-    let at = put_text(put_singles(getting(), left, n), b" ");
-    judge_accepted(row, at, same_singles(left, expected), got.refused)
+    let at = put_singles(out, start_list(out, row), readings, n);
+    let at = put_text(
+        out,
+        put_call(out, put_text(out, at, b" "), by, setting),
+        b", mark",
+    );
+    single_at(out, at, 0, missing);
+    end(out);
+    put_singles(out, expecting(out), expected, n);
+    end(out);
+    let at = put_text(out, put_singles(out, getting(out), left, n), b" ");
+    judge_accepted(out, row, at, same_singles(left, expected), got.refused)
 }

@@ -6,7 +6,6 @@
 use crate::fields::{field, first, number, part};
 use crate::forms::{has_form, parts};
 use crate::line::{end, put_number, put_text, start};
-use check::same;
 
 fn name(shape: &[u8], k: usize) -> &[u8] {
     part(field(shape, k), 0, b':')
@@ -16,168 +15,166 @@ fn form(shape: &[u8], k: usize) -> &[u8] {
     part(field(shape, k), 1, b':')
 }
 
-fn put_wrong(row: &[u8]) -> usize {
-    put_text(start(row), b"WRONG, ")
+fn put_wrong(out: &impl Print, row: &[u8]) -> usize {
+    put_text(out, start(out, row), b"WRONG, ")
 }
 
 // The line of a row with a fault, up to the reason: a field's name, and what stands there.
-fn put_fault(row: &[u8], name: &[u8], s: &[u8]) -> usize {
-    let at = put_text(put_text(put_wrong(row), name), b" \"");
-    put_text(put_text(at, s), b"\": ")
+fn put_fault(out: &impl Print, row: &[u8], name: &[u8], s: &[u8]) -> usize {
+    let at = put_text(out, put_text(out, put_wrong(out, row), name), b" \"");
+    put_text(out, put_text(out, at, s), b"\": ")
 }
 
-fn put_reason(at: usize, form: u8) -> usize {
+fn put_reason(out: &impl Print, at: usize, form: u8) -> usize {
     match form {
-        b'b' => put_text(at, b"not 1, 8 and 23 bits with a space between"),
-        b'c' => put_text(at, b"not a number from 0 to 65535"),
-        b'd' => put_text(at, b"not 16 digits 0 to 9, A to F in capitals"),
-        b'e' => put_text(at, b"this kind has it empty"),
-        b'f' => put_text(at, b"not spared, clipped, missing or empty"),
-        b'h' => put_text(at, b"not 1 to 16 digits 0 to 9, A to F in capitals"),
+        b'b' => put_text(out, at, b"not 1, 8 and 23 bits with a space between"),
+        b'c' => put_text(out, at, b"not a number from 0 to 65535"),
+        b'd' => put_text(out, at, b"not 16 digits 0 to 9, A to F in capitals"),
+        b'e' => put_text(out, at, b"this kind has it empty"),
+        b'f' => put_text(out, at, b"not spared, clipped, missing or empty"),
+        b'h' => put_text(out, at, b"not 1 to 16 digits 0 to 9, A to F in capitals"),
         b'i' => put_text(
+            out,
             at,
             b"not a number of 1 to 4 digits, with or without a minus",
         ),
-        b'l' => put_text(at, b"not a number from 0 to 999999999"),
-        b'm' => put_text(at, b"not a method's name, nor method and a number"),
-        b'q' => put_text(at, b"not a number from 0 to 4"),
-        b'r' => put_text(at, b"not a number from 0 to 19"),
-        b's' => put_text(at, b"not 8 digits 0 to 9, A to F in capitals"),
-        b'w' => put_text(at, b"not a number from 0 to 4294967295"),
-        _ => put_text(at, b"not at most 400 bytes, with an n after each backslash"),
+        b'l' => put_text(out, at, b"not a number from 0 to 999999999"),
+        b'm' => put_text(out, at, b"not a method's name, nor method and a number"),
+        b'q' => put_text(out, at, b"not a number from 0 to 4"),
+        b'r' => put_text(out, at, b"not a number from 0 to 19"),
+        b's' => put_text(out, at, b"not 8 digits 0 to 9, A to F in capitals"),
+        b'w' => put_text(out, at, b"not a number from 0 to 4294967295"),
+        _ => put_text(
+            out,
+            at,
+            b"not at most 400 bytes, with an n after each backslash",
+        ),
     }
 }
 
-fn item_fits(row: &[u8], name: &[u8], s: &[u8], form: u8) -> bool {
+fn item_fits(out: &impl Print, row: &[u8], name: &[u8], s: &[u8], form: u8) -> bool {
     if has_form(s, form) {
         return true;
     }
-    put_reason(put_fault(row, name, s), form);
-    end();
+    put_reason(out, put_fault(out, row, name, s), form);
+    end(out);
     false
 }
 
-fn items_fit(row: &[u8], name: &[u8], s: &[u8], form: u8) -> bool {
+fn items_fit(out: &impl Print, row: &[u8], name: &[u8], s: &[u8], form: u8) -> bool {
     let n = parts(s, b' ');
-    let mut i: usize = 0;
-    while i < n {
-        if !item_fits(row, name, part(s, i, b' '), form) {
+    for i in 0..n {
+        if !item_fits(out, row, name, part(s, i, b' '), form) {
             return false;
         }
-        i += 1;
     }
     true
 }
 
-fn too_many(row: &[u8], name: &[u8], s: &[u8]) -> bool {
-    put_text(put_fault(row, name, s), b"more than 4 items");
-    end();
+fn too_many(out: &impl Print, row: &[u8], name: &[u8], s: &[u8]) -> bool {
+    put_text(out, put_fault(out, row, name, s), b"more than 4 items");
+    end(out);
     false
 }
 
-fn other_number(row: &[u8], name: &[u8], s: &[u8], other: &[u8]) -> bool {
-    let at = put_text(put_fault(row, name, s), b"not as many items as ");
-    put_text(at, other);
-    end();
+fn other_number(out: &impl Print, row: &[u8], name: &[u8], s: &[u8], other: &[u8]) -> bool {
+    let at = put_text(out, put_fault(out, row, name, s), b"not as many items as ");
+    put_text(out, at, other);
+    end(out);
     false
 }
 
-fn list_fits(row: &[u8], shape: &[u8], k: usize) -> bool {
+fn list_fits(out: &impl Print, row: &[u8], shape: &[u8], k: usize) -> bool {
     let s = field(row, k);
     let called = name(shape, k);
     let written = form(shape, k);
     let other = number(part(written, 1, b'*'), 10) as usize;
     if parts(s, b' ') > 4 {
-        return too_many(row, called, s);
+        return too_many(out, row, called, s);
     }
-    if !items_fit(row, called, s, first(written)) {
+    if !items_fit(out, row, called, s, first(written)) {
         return false;
     }
     if parts(s, b' ') != parts(field(row, other), b' ') {
-        return other_number(row, called, s, name(shape, other));
+        return other_number(out, row, called, s, name(shape, other));
     }
     true
 }
 
-fn field_fits(row: &[u8], shape: &[u8], k: usize) -> bool {
+fn field_fits(out: &impl Print, row: &[u8], shape: &[u8], k: usize) -> bool {
     let s = field(row, k);
     let written = form(shape, k);
     if s.len() == 0 && parts(written, b'?') == 2 {
         return true;
     }
     if parts(written, b'*') == 2 {
-        return list_fits(row, shape, k);
+        return list_fits(out, row, shape, k);
     }
-    item_fits(row, name(shape, k), s, first(written))
+    item_fits(out, row, name(shape, k), s, first(written))
 }
 
-fn fields_fit(row: &[u8], shape: &[u8]) -> bool {
+fn fields_fit(out: &impl Print, row: &[u8], shape: &[u8]) -> bool {
     let n = parts(shape, b'|');
-    let mut k: usize = 0;
-    while k < n {
-        if !field_fits(row, shape, k) {
+    for k in 0..n {
+        if !field_fits(out, row, shape, k) {
             return false;
         }
-        k += 1;
     }
     true
 }
 
-fn miscounted(row: &[u8], shape: &[u8]) -> bool {
-    let at = put_number(put_wrong(row), parts(row, b'|') as u64);
-    let at = put_text(put_text(at, b" fields, and "), field(shape, 0));
-    put_number(put_text(at, b" has "), parts(shape, b'|') as u64);
-    end();
+fn miscounted(out: &impl Print, row: &[u8], shape: &[u8]) -> bool {
+    let at = put_number(out, put_wrong(out, row), parts(row, b'|') as u64);
+    let at = put_text(out, put_text(out, at, b" fields, and "), field(shape, 0));
+    put_number(out, put_text(out, at, b" has "), parts(shape, b'|') as u64);
+    end(out);
     false
 }
 
 // The row's kind is none that there is.
-pub fn no_kind(row: &[u8]) -> bool {
+pub fn no_kind(out: &impl Print, row: &[u8]) -> bool {
     put_text(
-        put_fault(row, b"kind", field(row, 0)),
+        out,
+        put_fault(out, row, b"kind", field(row, 0)),
         b"not a kind of case",
     );
-    end();
+    end(out);
     false
 }
 
 // Has the row the shape? Where it hasn't, its line says so.
-pub fn fits(row: &[u8], shape: &[u8]) -> bool {
-    if !same(field(row, 0), field(shape, 0)) {
-        return no_kind(row);
+pub fn fits(out: &impl Print, row: &[u8], shape: &[u8]) -> bool {
+    if field(row, 0) != field(shape, 0) {
+        return no_kind(out, row);
     }
     if parts(row, b'|') != parts(shape, b'|') {
-        return miscounted(row, shape);
+        return miscounted(out, row, shape);
     }
-    fields_fit(row, shape)
+    fields_fit(out, row, shape)
 }
 
-fn says(row: &[u8], reason: &[u8]) -> bool {
-    put_text(put_wrong(row), reason);
-    end();
+fn says(out: &impl Print, row: &[u8], reason: &[u8]) -> bool {
+    put_text(out, put_wrong(out, row), reason);
+    end(out);
     false
 }
 
 fn has_byte_order_mark(row: &[u8]) -> bool {
-    if row.len() < 3 {
-        return false;
-    }
-    let one = row[0];
-    let two = row[1];
-    let three = row[2];
-    one == 0xEF && two == 0xBB && three == 0xBF
+    matches!(row, [0xEF, 0xBB, 0xBF, ..])
 }
 
 // What some editors add to a line and don't show. Where it is there, the row's line says so.
-pub fn is_plain(row: &[u8]) -> bool {
+pub fn is_plain(out: &impl Print, row: &[u8]) -> bool {
     if has_byte_order_mark(row) {
         return says(
+            out,
             row,
             b"a byte order mark stands before the row: save the sheet as plain text",
         );
     }
     if parts(row, b'\r') > 1 {
         return says(
+            out,
             row,
             b"a carriage return stands in the row: save the sheet with the line ends of Linux, not of Windows",
         );

@@ -41,8 +41,7 @@ pub fn piece(s: &[u8], at: usize, stop: u8) -> Span
     ensures { (result.from ≤ result.to) × (result.to ≤ length s.now) × (at < length s.now → at < result.next) }
 {
     let from = at_most(at, s.len());
-    let mut to = from;
-    while to < s.len() {
+    for to in from..s.len() {
         if s[to] == stop {
             return Span {
                 from,
@@ -50,19 +49,20 @@ pub fn piece(s: &[u8], at: usize, stop: u8) -> Span
                 next: to + 1,
             };
         }
-        to += 1;
     }
-    Span { from, to, next: to }
+    Span {
+        from,
+        to: s.len(),
+        next: s.len(),
+    }
 }
 
 // Part k of what the byte `stop` parts.
 pub fn part(s: &[u8], k: usize, stop: u8) -> &[u8] {
     let mut at: usize = 0;
-    let mut i: usize = 0;
-    while i < k {
+    for _ in 0..k {
         let p = piece(s, at, stop);
         at = p.next;
-        i += 1;
     }
     let p = piece(s, at, stop);
     let from = p.from;
@@ -97,12 +97,10 @@ pub fn number(s: &[u8], base: u64) -> u64
     requires { base ≤ 16 }
 {
     let mut v: u64 = 0;
-    let mut i: usize = 0;
-    while i < s.len() {
-        if s[i] != b' ' {
-            v = v % 0x1000_0000_0000_0000 * base + (fields_in::digit(s[i]) % 16) as u64;
+    for byte in s {
+        if *byte != b' ' {
+            v = v % 0x1000_0000_0000_0000 * base + (fields_in::digit(*byte) % 16) as u64;
         }
-        i += 1;
     }
     v
 }

@@ -1,26 +1,21 @@
 // The forms that a field can have. Each function answers whether a text has one, by the readers that the row is then run with.
 use crate::fields::{number, part};
-use check::same;
 
 // How many parts the byte `stop` makes of a text: one more than it stands there.
 pub fn parts(s: &[u8], stop: u8) -> usize {
     let mut n: usize = 1;
-    let mut i: usize = 0;
-    while i < s.len() {
-        n = std::num::wrapping_add_usize(n, (s[i] == stop) as usize);
-        i += 1;
+    for byte in s {
+        n = n.wrapping_add((*byte == stop) as usize);
     }
     n
 }
 
 // Digits of the base, and nothing else.
 fn digits(s: &[u8], base: u32) -> bool {
-    let mut i: usize = 0;
-    while i < s.len() {
-        if fields_in::digit(s[i]) >= base {
+    for byte in s {
+        if fields_in::digit(*byte) >= base {
             return false;
         }
-        i += 1;
     }
     true
 }
@@ -47,7 +42,9 @@ fn is_integer(s: &[u8]) -> bool {
 
 // `method` and a number that fits in 32 bits.
 fn is_numbered(s: &[u8]) -> bool {
-    parts(s, b' ') == 2 && same(part(s, 0, b' '), b"method") && up_to(part(s, 1, b' '), 4294967295)
+    parts(s, b' ') == 2
+        && matches!(part(s, 0, b' '), b"method")
+        && up_to(part(s, 1, b' '), 4294967295)
 }
 
 fn is_method(s: &[u8]) -> bool {
@@ -63,19 +60,17 @@ fn is_bits(s: &[u8]) -> bool {
 }
 
 fn is_fate(s: &[u8]) -> bool {
-    same(s, b"spared") || same(s, b"clipped") || same(s, b"missing")
+    matches!(s, b"spared" | b"clipped" | b"missing")
 }
 
 // Each backslash has its n: more than these two the reader of texts doesn't know.
 fn is_text(s: &[u8]) -> bool {
     let mut escaped = false;
-    let mut i: usize = 0;
-    while i < s.len() {
-        if escaped && s[i] != b'n' {
+    for byte in s {
+        if escaped && *byte != b'n' {
             return false;
         }
-        escaped = s[i] == b'\\';
-        i += 1;
+        escaped = *byte == b'\\';
     }
     !escaped && s.len() <= 400
 }

@@ -79,11 +79,7 @@ fn fine() -> Fault {
 }
 
 fn is_found(fault: Fault) -> bool {
-    let reason = fault.reason;
-    match reason {
-        Reason::Nothing => false,
-        _ => true,
-    }
+    !matches!(fault.reason, Reason::Nothing)
 }
 
 // Where the first byte from `low` to `high` stands; `to` where there is none.
@@ -91,14 +87,12 @@ pub fn until(s: &[u8], from: usize, to: usize, low: u8, high: u8) -> usize
     requires { (from ≤ to) × (to ≤ length s.now) }
     ensures { (from ≤ result) × (result ≤ to) }
 {
-    let mut i = from;
-    while i < to {
+    for i in from..to {
         if low <= s[i] && s[i] <= high {
             return i;
         }
-        i += 1;
     }
-    i
+    to
 }
 
 fn has(s: &[u8], from: usize, to: usize, low: u8, high: u8) -> bool
@@ -112,12 +106,10 @@ fn fields(s: &[u8], from: usize, to: usize) -> usize
     requires { (from ≤ to) × (to ≤ length s.now) }
 {
     let mut n: usize = 1;
-    let mut i = from;
-    while i < to {
-        if s[i] == b',' {
-            n = std::num::wrapping_add_usize(n, 1);
+    for byte in &s[from..to] {
+        if *byte == b',' {
+            n = n.wrapping_add(1);
         }
-        i += 1;
     }
     n
 }
@@ -232,12 +224,7 @@ fn field_fault(s: &[u8], line: usize, k: usize, from: usize, to: usize) -> Fault
     requires { (from ≤ to) × (to ≤ length s.now) }
 {
     if from == to {
-        return with_counts(
-            Reason::EmptyField,
-            line,
-            std::num::wrapping_add_usize(k, 1),
-            0,
-        );
+        return with_counts(Reason::EmptyField, line, k.wrapping_add(1), 0);
     }
     if line == 2 && k == 0 {
         return method_fault(s, line, from, to);
@@ -330,7 +317,7 @@ fn end_fault(s: &[u8], line: usize, from: usize, to: usize) -> Fault
     if ends_in(s, from, to, b'\r') && !cut {
         return at_line(Reason::CarriageReturn, line);
     }
-    if line == 1 && !text_in::header_at(s) && !check::same(s, b"method,setting,mark") {
+    if line == 1 && !text_in::header_at(s) && !matches!(s, b"method,setting,mark") {
         return at_line(Reason::FirstLine, line);
     }
     if from == to {

@@ -6,12 +6,12 @@ mod faults;
 mod words;
 
 // Says why a text got a refusal by this number.
-pub fn say(s: &[u8], number: u32) {
-    words::put_text(b"trimlist: ");
+pub fn say(rt: &impl Eprint, s: &[u8], number: u32) {
+    words::put_text(rt, "trimlist: ");
     if number == 9 {
-        words::put_fault(s, faults::fault_of(s));
+        words::put_fault(rt, s, faults::fault_of(s));
     } else {
-        words::put_job(s, number);
+        words::put_job(rt, s, number);
     }
-    words::put_text(b"\n");
+    words::put_text(rt, "\n");
 }

@@ -4,34 +4,40 @@
 
 ghost use Rattle.std.specs.Prelude.{◌+◌, ◌≤◌, length};
 
-use libc::{EINTR, STDERR_FILENO, STDIN_FILENO, STDOUT_FILENO};
+use std::env::FillError;
+use std::io;
+use std::io::{ErrorKind, Read};
+use std::process::ExitCode;
+use std::rt::Env;
 
-// What one read brought: so many bytes, or the input's end, or that it can't be read. A read that a signal interrupted brings none of these.
+// What one read brought: so many bytes, or the input's end, or why it can't be read. A read that a signal interrupted brings none of these.
 #[derive(Clone, Copy)]
 pub struct Came {
     pub bytes: usize,
     pub ended: bool,
-    pub failed: bool,
+    pub failed: Option<io::Error>,
 }
 
 // One read into `text` from `from` on.
-fn read_from(text: &mut [u8], from: usize) -> Came
+fn read_from(input: &mut impl Read, text: &mut [u8], from: usize) -> Came
     requires { from ≤ length text.old }
     ensures { from + result.bytes ≤ length text.new }
 {
-    let got = libc::read(STDIN_FILENO, &mut text[from..]);
-    if got < 0 {
-        return Came {
+    match input.read(&mut text[from..]) {
+        Ok(bytes) => Came {
+            bytes,
+            ended: bytes == 0,
+            failed: None,
+        },
+        Err(error) => Came {
             bytes: 0,
             ended: false,
-            failed: os::errno() != EINTR,
-        };
-    }
-    let bytes = io::count(got, &text[from..]);
-    Came {
-        bytes,
-        ended: got == 0,
-        failed: false,
+            failed: if error.kind() == ErrorKind::Interrupted {
+                None
+            } else {
+                Some(error)
+            },
+        },
     }
 }
 
@@ -39,42 +45,66 @@ fn read_from(text: &mut [u8], from: usize) -> Came
 #[derive(Clone, Copy)]
 pub struct Input {
     pub bytes: usize,
-    pub failed: bool,
+    pub failed: Option<io::Error>,
 }
 
-// Reads until the input ends, `text` is full or a read fails. A proved loop has to end, and nothing says that the input does, so the turns are counted down from
-// a number that no run uses up.
-fn read_input(text: &mut [u8]) -> Input
+// Reads until the input ends, `text` is full or a read fails. A proved loop has to end, and nothing says that the input does, so the turns are counted, up to a
+// number that no run comes to: one that did would have been interrupted all along.
+fn read_input(input: &mut impl Read, text: &mut [u8]) -> Input
     ensures { result.bytes ≤ length text.new }
 {
     let mut bytes: usize = 0;
-    let mut turns = u64::MAX;
-    while turns > 0 {
-        let came = read_from(text, bytes);
-        if came.failed {
+    for _ in 0..u64::MAX {
+        let came = read_from(input, text, bytes);
+        if came.failed.is_some() {
             return Input {
                 bytes,
-                failed: true,
+                failed: came.failed,
             };
         }
         bytes += came.bytes;
         if came.ended {
             return Input {
                 bytes,
-                failed: false,
+                failed: None,
             };
         }
-        turns -= 1;
     }
     Input {
         bytes,
-        failed: true,
+        failed: Some(io::Error::from(ErrorKind::Interrupted)),
     }
 }
 
-fn write_answer(answer: &[u8]) {
-    if !io::write_all(STDOUT_FILENO, answer) {
-        os::fail(b"trimlist: the answer could not be written to standard output");
+// A line on standard error: what failed, and why, in the system's words. Its number of the error, which std has behind them, is left out.
+fn fail<R: Eprint + AllocGlobal>(rt: &R, what: &str, error: io::Error) {
+    let _ = match format!(in rt.alloc(); "{error}") {
+        Ok(words) => {
+            let why = words
+                .split_once(" (os error ")
+                .map_or(words.as_str(), |parts| parts.0);
+            eprintln!(rt; "{what}: {why}")
+        }
+        Err(_) => rt.eprintln(what),
+    };
+}
+
+// What a shell shows of a program that writes to a pipe whose reader has gone, and is ended for it.
+const NO_READER: u8 = 141;
+
+// Writes the answer; how the program is to end.
+fn write_answer<R: Print + Eprint + AllocGlobal>(rt: &R, answer: &[u8]) -> ExitCode {
+    match rt.write_all(answer) {
+        Ok(()) => ExitCode::SUCCESS,
+        Err(error) if error.kind() == ErrorKind::BrokenPipe => ExitCode::from(NO_READER),
+        Err(error) => {
+            fail(
+                rt,
+                "trimlist: the answer could not be written to standard output",
+                error,
+            );
+            ExitCode::SUCCESS
+        }
     }
 }
 
@@ -88,41 +118,50 @@ fn number_of(digit: u8) -> u32 {
 }
 
 // Writes what `listing` answers to a text. Of all answers only a refusal has 10 bytes, `refused,9` and the newline: then the reason goes to standard error.
-fn answer(text: &[u8]) {
-    let mut out = io::large_buffer();
+fn answer<R: Print + Eprint + AllocGlobal>(rt: &R, text: &[u8]) -> ExitCode {
+    let mut out = [0u8; 65536];
     let n = listing::listing(text, &mut out);
-    write_answer(&out[..n]);
+    let end = write_answer(rt, &out[..n]);
     if n == 10 {
-        text_reason::say(text, number_of(out[8]));
+        text_reason::say(rt, text, number_of(out[8]));
     }
+    end
 }
 
 // The longest text that has the form has 37,052 bytes: 20 of the header, 32 of the job, 136 of the names and 512 lines of 72. Once 37,053 bytes
 // are read the text is refused with 9 whatever follows them, so no more is read.
-fn run() {
+fn run<R: io::Input + Print + Eprint + AllocGlobal>(rt: &R) -> ExitCode {
     let mut text = [0u8; 37053];
-    let input = read_input(&mut text);
-    if input.failed {
-        os::fail(b"trimlist: standard input could not be read to its end");
-        write_answer(b"refused,9\n");
-        return;
+    let input = read_input(&mut rt.reader(), &mut text);
+    if let Some(error) = input.failed {
+        fail(
+            rt,
+            "trimlist: standard input could not be read to its end",
+            error,
+        );
+        return write_answer(rt, b"refused,9\n");
     }
     let n = input.bytes;
-    answer(&text[..n]);
+    answer(rt, &text[..n])
 }
 
 // The program takes no argument: whatever it is given, it says what it is. On standard error, so that no file takes this for an answer.
-fn about() {
-    io::write_all(
-        STDERR_FILENO,
-        b"trimlist 2.5.0\ntrims the text that it reads from standard input: trimlist <text\n",
+fn about(rt: &impl Eprint) {
+    let _ = rt.eprint(
+        "trimlist 2.5.0\ntrims the text that it reads from standard input: trimlist <text\n",
     );
 }
 
-fn main() {
-    if os::arg_count() > 1 {
-        about();
-        return;
+// Was the program given an argument?
+fn has_argument(rt: &impl Env) -> bool {
+    let mut start = [0u8; 1];
+    !matches!(rt.arg(1, &mut start), Err(FillError::NotPresent))
+}
+
+fn main(rt: HostRuntime) -> ExitCode {
+    if has_argument(&rt) {
+        about(&rt);
+        return ExitCode::SUCCESS;
     }
-    run();
+    run(&rt)
 }

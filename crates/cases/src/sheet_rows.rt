@@ -6,32 +6,31 @@ use crate::limits::{exceeds, outside};
 use crate::sums::number;
 use crate::texts::file;
 use crate::trims::{array, asked, asked_double, double, loader, one_single, paper, twice};
-use check::same;
 use table::fields::{initial, piece};
 use table::line::{end, put_number, put_text};
 
 // The case of a row that can be run: whether it is right. No two kinds have the same first letter.
-fn right(row: &[u8]) -> bool {
+fn right(out: &impl Print, row: &[u8]) -> bool {
     match initial(row, 0) {
-        b's' => one_single(row),
-        b't' => twice(row),
-        b'd' => double(row),
-        b'l' => loader(row),
-        b'b' => paper(row),
-        b'q' => asked(row),
-        b'w' => asked_double(row),
-        b'a' => array(row),
-        b'r' => layers(row),
-        b'c' => unpacked(row),
-        b'p' => asked_pack(row),
-        b'u' => asked_unpack(row),
-        b'v' => asked_layer(row),
-        b'e' => exceeds(row),
-        b'o' => outside(row),
-        b'g' => grouped(row),
-        b'h' => held(row),
-        b'n' => number(row),
-        b'f' => file(row),
+        b's' => one_single(out, row),
+        b't' => twice(out, row),
+        b'd' => double(out, row),
+        b'l' => loader(out, row),
+        b'b' => paper(out, row),
+        b'q' => asked(out, row),
+        b'w' => asked_double(out, row),
+        b'a' => array(out, row),
+        b'r' => layers(out, row),
+        b'c' => unpacked(out, row),
+        b'p' => asked_pack(out, row),
+        b'u' => asked_unpack(out, row),
+        b'v' => asked_layer(out, row),
+        b'e' => exceeds(out, row),
+        b'o' => outside(out, row),
+        b'g' => grouped(out, row),
+        b'h' => held(out, row),
+        b'n' => number(out, row),
+        b'f' => file(out, row),
         _ => false,
     }
 }
@@ -43,51 +42,53 @@ pub struct Count {
     pub wrong: u64,
 }
 
-fn one_line(line: &[u8]) -> Count {
-    if line.len() == 0 || same(line, b"\r") {
+fn one_line(out: &impl Print, line: &[u8]) -> Count {
+    if matches!(line, [] | b"\r") {
         return Count { cases: 0, wrong: 0 };
     }
     if line[0] == b'#' {
-        put_text(0, &line[1..]);
-        end();
+        put_text(out, 0, &line[1..]);
+        end(out);
         return Count { cases: 0, wrong: 0 };
     }
-    if is_readable(line) && right(line) {
+    if is_readable(out, line) && right(out, line) {
         return Count { cases: 1, wrong: 0 };
     }
     Count { cases: 1, wrong: 1 }
 }
 
-fn put_total(cases: u64, wrong: u64) {
-    let at = put_number(put_text(0, b"\n"), cases);
-    let at = put_number(put_text(at, b" cases, "), wrong);
-    put_text(at, b" wrong\n");
+fn put_total(out: &impl Print, cases: u64, wrong: u64) {
+    let at = put_number(out, put_text(out, 0, b"\n"), cases);
+    let at = put_number(out, put_text(out, at, b" cases, "), wrong);
+    put_text(out, at, b" wrong\n");
 }
 
 // The last line. A sheet without a case is a slip of whoever wrote it, or can't be read: it counts as a case that is wrong.
-fn total(cases: u64, wrong: u64) {
+fn total(out: &impl Print, cases: u64, wrong: u64) {
     if cases == 0 {
         put_text(
+            out,
             0,
             b"WRONG, the sheet has no case, or can't be read: cases <sheet\n",
         );
-        put_total(1, 1);
+        put_total(out, 1, 1);
         return;
     }
-    put_total(cases, wrong);
+    put_total(out, cases, wrong);
 }
 
 // What is said of a sheet that is longer than the room for it. Its rows aren't run: the last one might be cut.
-pub fn too_long() {
+pub fn too_long(out: &impl Print) {
     put_text(
+        out,
         0,
         b"WRONG, the sheet is longer than 65536 bytes, and no row of it was run: make it two sheets\n",
     );
-    total(1, 1);
+    total(out, 1, 1);
 }
 
 // The whole table: every line, and at the end how many cases there are and how many are wrong.
-pub fn rows(s: &[u8]) {
+pub fn rows(out: &impl Print, s: &[u8]) {
     let mut cases: u64 = 0;
     let mut wrong: u64 = 0;
     let mut at: usize = 0;
@@ -96,9 +97,9 @@ pub fn rows(s: &[u8]) {
         let from = p.from;
         let to = p.to;
         at = p.next;
-        let more = one_line(&s[from..to]);
-        cases = std::num::wrapping_add_u64(cases, more.cases);
-        wrong = std::num::wrapping_add_u64(wrong, more.wrong);
+        let more = one_line(out, &s[from..to]);
+        cases = cases.wrapping_add(more.cases);
+        wrong = wrong.wrapping_add(more.wrong);
     }
-    total(cases, wrong);
+    total(out, cases, wrong);
 }
