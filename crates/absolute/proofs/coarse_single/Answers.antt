@@ -1,7 +1,6 @@
 -- `coarse_single` meets its contract: `coarse_step` for singles, whose result is a single's.
 use mathlib.Core.Path.{refl}
 use native.Mathlib.Omega.{arith}
-use borrow.Author.Rules.{rules}
 use Rattle.meaning.specs.Readings.{infinity}
 use Rattle.absolute.proofs.Whole.{stepped_finite}
 use Rattle.absolute.proofs.coarse_single.Goals as goal
@@ -18,4 +17,4 @@ overflow_cast-result-2 c =
 
 pub returns : goal.returns
 unfolding infinity
-returns c = let t = c.coarse_step-step.ensures 8 refl in record {magnitude = t.new; clipped = t.clip; }
+returns c = let t = c.coarse_step-step.ensures 8 refl in record { magnitude = t.new; clipped = t.clip }

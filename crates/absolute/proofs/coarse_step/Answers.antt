@@ -2,7 +2,6 @@
 use native.Mathlib.Omega.{arith}
 use mathlib.Core.Path.{sym}
 use Prim.Native.Nat.{◌-◌}
-use borrow.Author.Rules.{rules}
 use lib.Pow.{pow_pos}
 use Rattle.meaning.specs.Readings.{spacing_exp}
 use Rattle.absolute.proofs.Whole.{low_part, sig_small, unit_small, step_stays, step_zero, Work, unit_pos, near_fits, below_fits, work_near, work_below}

@@ -1,7 +1,6 @@
 -- `fine_double` meets its contract, by the laws of `Fine` at binary64.
 use Prim.Native.Nat.{◌<◌}
 use native.Mathlib.Omega.{arith}
-use borrow.Author.Rules.{rules}
 use lib.Ieee.{binary64}
 use Rattle.meaning.specs.Readings.{infinity}
 use Rattle.absolute.proofs.Fine.{offset_number, moved_number, fine_moves, fine_stays}

@@ -1,6 +1,5 @@
 -- `magnitude_at` meets its contract, by its one test.
 use native.Mathlib.Omega.{arith}
-use borrow.Author.Rules.{rules}
 use borrow.Author.Tests.{eq-eqb, ne_eqb}
 use Rattle.absolute.proofs.magnitude_at.Goals as goal
 

@@ -2,7 +2,6 @@
 use mathlib.Core.Path.{sym}
 use native.Mathlib.Nat.{mod-lt, div-le_self}
 use native.Mathlib.Omega.{arith}
-use borrow.Author.Rules.{rules}
 use Rattle.meaning.proofs.Nearest.{nearest_down, nearest_up, nearest_tie}
 use Rattle.absolute.proofs.nearest_whole.Goals as goal
 

@@ -1,10 +1,9 @@
 -- Half after half.
-use mathlib.Core.Path.{◌≡◌}
-use Prim.Native.Nat.{◌/◌, ◌%◌, ◌^◌, ◌-◌}
+use Prim.Native.Nat.{◌/◌, ◌%◌, ◌^◌}
 use native.Mathlib.Omega.{arith}
 use borrow.Author.Rules.{rules}
-use lib.ListN.{length, length-set}
-use Rattle.parts.proofs.Fills.{Filled, filled_turn, filled_end}
+use lib.ListN.{length-set}
+use Rattle.parts.proofs.Fills.{filled_turn, filled_end}
 use Rattle.array_halves.proofs.cut_pairs.Goals as goal
 
 pub loop-i-preserved : goal.loop-i-preserved

@@ -1,9 +1,7 @@
 use mathlib.Core.Path.{◌≡◌}
 use Prim.Native.Nat.{◌/◌, ◌%◌, ◌^◌, ◌-◌}
-use native.Mathlib.Omega.{arith}
-use borrow.Author.Rules.{rules}
-use lib.ListN.{length, length-set}
-use Rattle.parts.proofs.Fills.{Filled, filled_turn, filled_end}
+use lib.ListN.{length}
+use Rattle.parts.proofs.Fills.{Filled}
 use Rattle.array_halves.proofs.cut_pairs.Given as goal
 
 -- Half after half.

@@ -1,10 +1,9 @@
 -- Number after number.
-use mathlib.Core.Path.{◌≡◌}
-use Prim.Native.Nat.{◌+◌, ◌*◌, ◌-◌}
+use Prim.Native.Nat.{◌+◌, ◌*◌}
 use native.Mathlib.Omega.{arith}
 use borrow.Author.Rules.{rules}
-use lib.ListN.{length, length-set}
-use Rattle.parts.proofs.Fills.{Zipped, zipped_turn, zipped_end}
+use lib.ListN.{length-set}
+use Rattle.parts.proofs.Fills.{zipped_turn, zipped_end}
 use Rattle.array_halves.proofs.join_words.Goals as goal
 
 pub loop-i-preserved : goal.loop-i-preserved

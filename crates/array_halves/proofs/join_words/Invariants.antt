@@ -1,9 +1,7 @@
 use mathlib.Core.Path.{◌≡◌}
 use Prim.Native.Nat.{◌+◌, ◌*◌, ◌-◌}
-use native.Mathlib.Omega.{arith}
-use borrow.Author.Rules.{rules}
-use lib.ListN.{length, length-set}
-use Rattle.parts.proofs.Fills.{Zipped, zipped_turn, zipped_end}
+use lib.ListN.{length}
+use Rattle.parts.proofs.Fills.{Zipped}
 use Rattle.array_halves.proofs.join_words.Given as goal
 
 -- Number after number.

@@ -17,4 +17,4 @@ returns-then-number-eq4096-clause-number c = simp (le-leb _ _ c.if-method-gt6.fa
 pub returns : goal.returns
 returns c =
     let t = le-leb _ _ c.if-method-gt6.false in
-    let u = ne_eqb _ _ c.if-number-eq4096.false in record {refusal = simp (t, u); number = simp (t, u); }
+    let u = ne_eqb _ _ c.if-number-eq4096.false in record { refusal = simp (t, u); number = simp (t, u) }

@@ -4,7 +4,6 @@ use mathlib.Core.Path.{ap, ◌∙◌}
 use mathlib.Core.Bool.{true, false}
 use lib.IntN.{pos, nat_abs}
 use mir.Facts.{to_z-of_z}
-use mir.Val.{to_z, of_z}
 use Rattle.asking.proofs.Signs.{below_said, cast_pos, is_pos, abs_fits, negative, under, over, inside}
 use Rattle.asking.proofs.in_range.Goals as goal
 

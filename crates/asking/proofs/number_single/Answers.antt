@@ -4,7 +4,6 @@ use mathlib.Core.Path.{ap, ◌∙◌}
 use mathlib.Core.Bool.{cond}
 use lib.IntN.{ℤ, pos, negsuc, nat_abs}
 use mir.Facts.{to_z-of_z}
-use borrow.Author.Rules.{rules}
 use Rattle.meaning.specs.Readings.{least_exp}
 use Rattle.meaning.specs.Methods.{digits_from, digit_count}
 use Rattle.meaning.specs.Questions.{above, between}

@@ -1,5 +1,4 @@
 -- The table's entry after the field's place, as a single.
-use borrow.Author.Rules.{rules}
 use Rattle.digit_tables.proofs.Fields.{limit_below, limit_most}
 use Rattle.digit_tables.proofs.field_limit.Goals as goal
 

@@ -1,5 +1,4 @@
 -- The mask by the field: none at either end, and elsewhere the tail that the place gives.
-use borrow.Author.Rules.{rules}
 use mathlib.Core.Path.{◌≡◌, ap}
 use Prim.Native.Nat.{ℕ, ◌*◌, ◌/◌, ◌%◌, ◌^◌, ◌-◌}
 use native.Mathlib.Omega.{arith}

@@ -1,8 +1,7 @@
 -- Each entry that is passed is its field's limit.
-use mathlib.Core.Path.{◌≡◌, refl, ◌∙◌}
-use Prim.Native.Nat.{ℕ, ◌-◌, ◌≤◌, ◌<◌}
+use mathlib.Core.Path.{refl, ◌∙◌}
 use native.Mathlib.Omega.{arith}
-use lib.ListN.{length, get_or, length-set}
+use lib.ListN.{length-set}
 use Rattle.digit_tables.specs.Fields.{field_limit}
 use Rattle.digit_tables.proofs.Fields.{filled}
 use Rattle.digit_tables.proofs.limits.Goals as goal

@@ -1,8 +1,8 @@
 -- Each entry that is passed is its mask.
-use mathlib.Core.Path.{◌≡◌, refl, ◌∙◌}
-use Prim.Native.Nat.{ℕ, ◌-◌, ◌/◌, ◌%◌, ◌^◌, ◌≤◌, ◌<◌}
+use mathlib.Core.Path.{refl, ◌∙◌}
+use Prim.Native.Nat.{ℕ, ◌-◌, ◌/◌, ◌%◌, ◌^◌}
 use native.Mathlib.Omega.{arith}
-use lib.ListN.{length, get_or, length-set}
+use lib.ListN.{length-set}
 use Rattle.digit_tables.specs.Fields.{field_tail}
 use Rattle.digit_tables.proofs.Fields.{filled}
 use Rattle.digit_tables.proofs.masks.Goals as goal

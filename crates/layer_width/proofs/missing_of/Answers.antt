@@ -1,9 +1,8 @@
 -- `missing_of` meets its contract: the power fits its word, and the code 16 bits.
-use borrow.Author.Rules.{rules}
 use native.Mathlib.Omega.{arith}
 use native.Mathlib.Nat.{mod-eq_of_lt}
 use mathlib.Core.Path.{◌≡◌}
-use Prim.Native.Nat.{◌-◌, ◌*◌, ◌%◌, ◌^◌}
+use Prim.Native.Nat.{◌*◌, ◌%◌, ◌^◌}
 use lib.Pow.{pow_mono, pow_pos}
 use Rattle.meaning.specs.Layers.{missing_code}
 use Rattle.layer_width.proofs.missing_of.Goals as goal

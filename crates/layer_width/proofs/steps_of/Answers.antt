@@ -1,9 +1,8 @@
 -- `steps_of` meets its contract: the power fits its word.
-use borrow.Author.Rules.{rules}
 use native.Mathlib.Omega.{arith}
 use native.Mathlib.Nat.{mod-eq_of_lt}
 use mathlib.Core.Path.{◌≡◌}
-use Prim.Native.Nat.{◌-◌, ◌*◌, ◌%◌, ◌^◌}
+use Prim.Native.Nat.{◌*◌, ◌%◌, ◌^◌}
 use lib.Pow.{pow_mono}
 use Rattle.meaning.specs.Layers.{last_code}
 use Rattle.layer_width.proofs.steps_of.Goals as goal
