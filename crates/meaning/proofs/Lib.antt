@@ -37,5 +37,6 @@ pub mod Elements
 pub mod Packed
 pub mod Loader
 pub mod OldForm
+pub mod OldRange
 pub mod Planes
 pub mod Totals

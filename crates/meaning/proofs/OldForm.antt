@@ -11,11 +11,12 @@ use lib.IntN.{ℤ}
 use lib.ListN.{length, get_or, take, drop, replicate, length-replicate, length-take, length-drop}
 use lib.Pow.{pow_mono}
 use lib.Seq.{get_or-take, get_or-drop}
-use Rattle.meaning.specs.Readings.{finite, exponent_field, fraction, size, infinity, origin}
+use Rattle.meaning.specs.Readings.{finite}
 use Rattle.meaning.specs.Layers.{Layer, missing_code, last_code, holds, least_from, runs, layers, smallest, summary, span, layer_of, code, packed_layers, packed_codes, unpacked_code, unpacked_codes}
 use Rattle.meaning.specs.Questions.{accepted, ask, all, length_in_range, whole, is_nan, width_in_range, packable, exponent_in_range, code_in_range, layer_questions, pack_questions, unpack_questions}
 use Rattle.meaning.specs.Calls.{leaving, stored_exponent, stored_layer, stored_layers, pack, unpack}
 use Rattle.meaning.specs.OldForm.{old_exponent, old_layer, old_code, old_codes, old_layers, old_double, old_doubles, sixteens, OldForm}
+use Rattle.meaning.proofs.OldRange.{enough}
 use Rattle.meaning.proofs.Packing.{Packable, holds_order, order_holds, least_holds, least_least, span_under}
 use Rattle.meaning.proofs.Packed.{all_asked}
 
@@ -26,11 +27,6 @@ old_search : (n more e : ℕ) → old_exponent n more e ≡ least_from 16 n more
 unfolding old_exponent least_from holds last_code
 old_search n zero e = refl
 old_search n (suc more) e = ap (λ (x : ℕ). cond (leb n (65534 * 2 ^ e)) e x) (old_search n more (suc e))
-
--- 114 is enough for 16 bits
-enough : 2 * origin 23 8 ≤ last_code 16 * 2 ^ 263
-unfolding origin size exponent_field fraction infinity last_code
-enough = lit≤ tt
 
 -- and what lies above it changes nothing
 same_least : (n : ℕ) → holds 16 n 263 ≡ true → least_from 16 n 277 0 ≡ least_from 16 n 263 0
