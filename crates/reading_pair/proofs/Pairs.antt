@@ -49,20 +49,19 @@ module _ (F X mark w : ℕ) where
 
 module _ (F X mark q w v : ℕ) where
   -- the two tests' answers, a and b, and the words', r
-  pub first_left_out : (a : Bool) → a ≡ trimmable F X mark w → not a ≡ true → false ≡ beyond F X mark q w v
-  first_left_out true e f = absurd (true≢false (sym f))
-  first_left_out false e f = sym (first_out F X mark q w v (sym e))
+  pub first_left_out : (a : Bool) → a ≡ trimmable F X mark w → a ≡ false → false ≡ beyond F X mark q w v
+  first_left_out a e f = sym (first_out F X mark q w v (sym e ∙ f))
 
-  pub second_left_out : (b : Bool) → b ≡ trimmable F X mark v → not b ≡ true → false ≡ beyond F X mark q w v
-  second_left_out true e f = absurd (true≢false (sym f))
-  second_left_out false e f = sym (swapped F X mark q w v ∙ first_out F X mark q v w (sym e))
+  pub second_left_out : (b : Bool) → b ≡ trimmable F X mark v → b ≡ false → false ≡ beyond F X mark q w v
+  second_left_out b e f = sym (swapped F X mark q w v ∙ first_out F X mark q v w (sym e ∙ f))
 
-  pub both_in : (a b r : Bool) → a ≡ trimmable F X mark w → b ≡ trimmable F X mark v → not a ≡ false → not b ≡ false
+  pub both_in : (a b r : Bool) → a ≡ trimmable F X mark w → b ≡ trimmable F X mark v → a ≡ true → b ≡ true
       → (magnitude F X w < infinity F X → magnitude F X v < infinity F X → r ≡ ltb (2 ^ q) (distance (position F X w) (position F X v))) → r ≡ beyond F X mark q w v
   unfolding beyond
-  both_in false b r e f g h k = absurd (true≢false g)
-  both_in true false r e f g h k = absurd (true≢false h)
-  both_in true true r e f g h k = rw (sym e, sym f) (k (trimmable_below F X mark w (sym e)) (trimmable_below F X mark v (sym f)))
+  both_in a b r e f g h k =
+      let w_in : trimmable F X mark w ≡ true = sym e ∙ g in
+      let v_in : trimmable F X mark v ≡ true = sym f ∙ h in
+      rw (w_in, v_in) (k (trimmable_below F X mark w w_in) (trimmable_below F X mark v v_in))
 
 module _ (F X mark q : ℕ) where
   not_finite : (w v : ℕ) → infinity F X ≤ magnitude F X w → beyond F X mark q w v ≡ false

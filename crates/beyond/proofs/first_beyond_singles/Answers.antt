@@ -21,16 +21,16 @@ pub returns-then-refusal-ne0 : goal.returns-then-refusal-ne0
 unfolding answer_of
 returns-then-refusal-ne0 c =
     let b = c in
-    refused_first 23 8 _ _ _ _ _ _ _ b.ask_lengths.ensures (refusal b.before.before) b.first_no-refusal.ensures c.if-refusal-ne0.true
+    refused_first 23 8 _ _ _ _ _ _ _ b.ask_lengths.ensures (refusal (goal.at.returns-then-refusal-ne0 c).After-ask_single-asked) b.first_no-refusal.ensures c.if-refusal-ne0.true
 
 pub scan-requires : goal.scan-requires
 scan-requires c =
     let b = c in
     let n = none_refused _ _ _ _ _ b.ask_lengths.ensures b.first_no-refusal.ensures c.if-refusal-ne0.false in
-    (single_limit _ _ _ n.1 (refusal b.before.before) (number b.before.before), n.0)
+    (single_limit _ _ _ n.1 (refusal (goal.at.scan-requires c).After-ask_single-asked) (number (goal.at.scan-requires c).After-ask_single-asked), n.0)
 
 pub returns : goal.returns
 returns c =
     let b = c in
     let n = none_refused _ _ _ _ _ b.ask_lengths.ensures b.first_no-refusal.ensures c.if-refusal-ne0.false in
-    c.scan.ensures ∙ in_range 23 8 _ _ _ _ n.0 _ _ (refusal b.before.before) n.1 (number b.before.before)
+    c.scan.ensures ∙ in_range 23 8 _ _ _ _ n.0 _ _ (refusal (goal.at.returns c).After-ask_single-asked) n.1 (number (goal.at.returns c).After-ask_single-asked)

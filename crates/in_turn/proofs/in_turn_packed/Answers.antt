@@ -5,11 +5,18 @@ use Rattle.in_turn.proofs.in_turn_packed.Goals as goal
 
 pub returns : goal.returns
 returns c =
-    let at = c.before.before.before.before.before in
-    let l = (at.in_turn_singles.ensures.content, at.in_turn_singles.ensures.promised) in
-    let p = (at.pack.ensures.answer, (at.pack.ensures.codes, (at.pack.ensures.references, at.pack.ensures.exponents))) in
-    let a = rw c.in_turn_singles.ensures.content at c.pack.ensures.answer in
-    let k = rw c.in_turn_singles.ensures.content at c.pack.ensures.codes in
-    let r = rw c.in_turn_singles.ensures.content at c.pack.ensures.references in
-    let e = rw c.in_turn_singles.ensures.content at c.pack.ensures.exponents in
-    record {readings = search rules; answer = search rules; codes = search rules; references = search rules; exponents = search rules; promised = c.in_turn_singles.ensures.promised; claim = pack_promised _ _ _ _ c.in_turn_singles.ensures.content a k r e; }
+    let l = c.in_turn_singles.ensures in
+    let p = c.pack.ensures in
+    let a = rw l.content at p.answer in
+    let k = rw l.content at p.codes in
+    let r = rw l.content at p.references in
+    let e = rw l.content at p.exponents in
+    record {
+      readings = l.content;
+      answer = a;
+      codes = k;
+      references = r;
+      exponents = e;
+      promised = l.promised;
+      claim = pack_promised _ _ _ _ l.content a k r e;
+    }

@@ -1,0 +1,11 @@
+-- Place by place: the invariant is that nothing that was read is beyond.
+use Prim.Native.Nat.{◌-◌}
+use lib.ListN.{length}
+use Rattle.beyond.proofs.Scan.{Passed}
+use Rattle.beyond.proofs.singles.scan.Given as goal
+
+abbrev pub invariant-loop-read : goal.invariant-loop-read
+invariant-loop-read l = Passed 23 8 l.mark l.q l.raw l.trimmed l.read
+
+abbrev pub decreases-loop-read : goal.decreases-loop-read
+decreases-loop-read l = length l.raw - l.read
