@@ -8,7 +8,7 @@ use native.Mathlib.Nat.{le_refl, le_trans, lt_of_le_of_lt, lt_of_lt_of_le, lt_of
 use native.Mathlib.Omega.{arith}
 use lib.Pow.{pow_pos, pow-add, pow-lt, pow_mono}
 use lib.Ieee.{Format, binary32, binary64, prec, emax, low, hid, ones, top, round, to_bits, size as length}
-use lib.Ieee.Digits.{size_le as length-le, size-lt as length-lt}
+use lib.Ieee.Digits.{size-le as length-le, size-lt as length-lt}
 use lib.Ieee.Exact.{HasValue, units_val}
 use lib.Ieee.Fits.{two, reach, round_is}
 use lib.Ieee.Order.{drop, kept}

@@ -4,7 +4,7 @@
 -- it: the smaller may lie one binade lower, where the spacing is half as large.
 use mathlib.Core.Path.{◌≡◌, refl, sym, ap, ◌∙◌}
 use mathlib.Core.Logic.{◌⊎◌, inl, inr}
-use Prim.Native.Nat.{ℕ, suc, min, ◌+◌, ◌-◌, ◌*◌, ◌/◌, ◌^◌, ◌≤◌, ◌<◌}
+use Prim.Native.Nat.{ℕ, zero, suc, min, ◌+◌, ◌-◌, ◌*◌, ◌/◌, ◌^◌, ◌≤◌, ◌<◌}
 use native.Mathlib.Nat.{mul_comm, mul-sub, mul-le-mul_right, mul-le-mul_left, mul-lt-mul_of_pos_right, lt_of_mul-lt-mul_right, le-div_iff_mul-le, div-lt_iff_lt-mul, div-eq_of_lt, div-eq_of_lt-le, min-eq_left, min-eq_right}
 use native.Mathlib.Decide.{dec_lt, dec_le}
 use native.Mathlib.Omega.{arith}
@@ -214,6 +214,8 @@ module _ (F sa sb xa xb q : ℕ) (ha : sa < 2 * 2 ^ F) (hb : sb < 2 * 2 ^ F) (no
 
       -- P * H is at least P + H - 1
       grid : (P H : ℕ) → 0 < P → 0 < H → P + H ≤ P * H + 1
+      grid zero H a b = elim a [ ]
+      grid (suc P) zero a b = elim b [ ]
       grid (suc P) (suc H) a b = omega arith
 
       go : Dec (xb < xa) → 2 ^ (xa - 1) ≤ sa * 2 ^ xa - sb * 2 ^ xb

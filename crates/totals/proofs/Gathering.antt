@@ -141,6 +141,9 @@ module _ (m : ℕ) (cs : List ℕ) where
           few_d = omega (arith, t.few_d, few (i + 3));
         }
 
+    pub turned : (i : ℕ) (l next : Lanes) → next ≡ added_at m l cs i → Turn i l → Turn (i + 4) next
+    turned i l next e t = rw e (turn i l t)
+
   none_left : (k i : ℕ) → length cs ≤ i → lane_from (if_present m) k i (drop i cs) ≡ 0
   unfolding lane_from
   none_left k i h = rw (drop_of_length-le cs h) refl

@@ -6,25 +6,20 @@ use lib.ListN.{length}
 use Rattle.asking_codes.proofs.Turns.{Turn, start, room, fails, passes, end}
 use Rattle.asking_codes.proofs.all_known.Goals as goal
 
--- one more layer is there
-fits : (c : goal.In-loop-i)
-    → c.loop-i.from + c.args.run ≤ length c.args.codes.now
-fits c = room _ _ _ _ _ c.loop-i.invariant (omega arith)
-
 pub loop-i-init : goal.loop-i-init
 loop-i-init c = start _ _ _ c.requires
 
 pub overflow_add-to : goal.overflow_add-to
-overflow_add-to c = omega (arith, fits c)
+overflow_add-to c = omega (arith, room _ _ _ _ _ c.loop-i.invariant (omega arith))
 
 pub missing_of-missing-requires : goal.missing_of-missing-requires
 missing_of-missing-requires c = let at = c.loop-i in at.invariant.fit.few_bits at.i (omega arith)
 
 pub offset_bounds-codes-from : goal.offset_bounds-codes-from
-offset_bounds-codes-from c = omega (arith, fits c.before.before)
+offset_bounds-codes-from c = omega (arith, room _ _ _ _ _ c.loop-i.invariant (omega arith))
 
 pub slice_bounds-bits_of-end : goal.slice_bounds-bits_of-end
-slice_bounds-bits_of-end c = fits c.before.before
+slice_bounds-bits_of-end c = room _ _ _ _ _ c.loop-i.invariant (omega arith)
 
 pub returns-then-missing-bits : goal.returns-then-missing-bits
 returns-then-missing-bits c =

@@ -1,11 +1,8 @@
 -- `all_widths` meets its contract: the widths before place i are in range.
 use mathlib.Core.Path.{refl, sym, ◌∙◌}
-use Prim.Native.Nat.{◌-◌, ◌≤◌}
 use native.Mathlib.Omega.{arith}
-use borrow.Author.Tests.{not-true, not-false}
-use lib.ListN.{length}
 use Rattle.meaning.specs.Questions.{width_in_range}
-use Rattle.asking_layers.proofs.Every.{Left, left_passes, left_fails, left_none}
+use Rattle.asking_layers.proofs.Every.{left_passes, left_fails, left_none}
 use Rattle.asking_layers.proofs.all_widths.Goals as goal
 
 pub loop-i-init : goal.loop-i-init
@@ -13,13 +10,11 @@ loop-i-init c = (omega arith, refl)
 
 pub returns-then-not-width_in_range : goal.returns-then-not-width_in_range
 returns-then-not-width_in_range c =
-    let at = c in
-    left_fails width_in_range 0 _ at.loop-i.i (omega arith) (sym c.width_in_range.ensures ∙ not-true _ c.if-not-width_in_range.true) at.loop-i.invariant.1
+    left_fails width_in_range 0 _ c.loop-i.i (omega arith) (sym c.width_in_range.ensures ∙ c.if-not-width_in_range.true) c.loop-i.invariant.1
 
 pub loop-i-preserved : goal.loop-i-preserved
 loop-i-preserved c =
-    let at = c in
-    (omega arith, left_passes width_in_range 0 _ at.loop-i.i (omega arith) (sym c.width_in_range.ensures ∙ not-false _ c.if-not-width_in_range.false) at.loop-i.invariant.1)
+    (omega arith, left_passes width_in_range 0 _ c.loop-i.i (omega arith) (sym c.width_in_range.ensures ∙ c.if-not-width_in_range.false) c.loop-i.invariant.1)
 
 pub returns : goal.returns
 returns c = left_none width_in_range 0 _ c.loop-i.i (omega arith) c.loop-i.invariant.1

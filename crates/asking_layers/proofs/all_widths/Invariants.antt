@@ -1,10 +1,7 @@
-use mathlib.Core.Path.{refl, sym, ◌∙◌}
 use Prim.Native.Nat.{◌-◌, ◌≤◌}
-use native.Mathlib.Omega.{arith}
-use borrow.Author.Tests.{not-true, not-false}
 use lib.ListN.{length}
 use Rattle.meaning.specs.Questions.{width_in_range}
-use Rattle.asking_layers.proofs.Every.{Left, left_passes, left_fails, left_none}
+use Rattle.asking_layers.proofs.Every.{Left}
 use Rattle.asking_layers.proofs.all_widths.Given as goal
 
 -- `all_widths` meets its contract: the widths before place i are in range.

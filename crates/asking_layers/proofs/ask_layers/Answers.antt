@@ -1,9 +1,8 @@
 -- `ask_layers` meets its contract: the tests' values, on each way.
 use mathlib.Core.Path.{◌≡◌, refl, sym, ◌∙◌}
-use mathlib.Core.Bool.{Bool, true, false, not}
+use mathlib.Core.Bool.{Bool, true}
 use Prim.Native.Nat.{ℕ, ◌≤◌}
-use borrow.Author.Rules.{rules}
-use borrow.Author.Tests.{leb-true, not-true, not-false}
+use borrow.Author.Tests.{leb-true}
 use lib.Dec.{leb}
 use Rattle.meaning.specs.Questions.{length_in_range}
 use Rattle.meaning.proofs.Accepted.{and_first}
@@ -12,79 +11,64 @@ use Rattle.asking_layers.proofs.ask_layers.Goals as goal
 
 -- `ask_layers` meets its contract: the tests' values, on each way.
 -- what a test found, by the way that was taken after it
-no : {b d : Bool} → b ≡ d → not b ≡ true → d ≡ false
-no e t = sym e ∙ not-true _ t
-
-yes' : {b d : Bool} → b ≡ d → not b ≡ false → d ≡ true
-yes' e t = sym e ∙ not-false _ t
+found : {b d v : Bool} → b ≡ d → b ≡ v → d ≡ v
+found e t = sym e ∙ t
 
 some : (L : ℕ) → length_in_range L ≡ true → 1 ≤ L
 some L e = leb-true 1 L (and_first (leb 1 L) (leb L 65536) e)
 
 pub returns-then-not-length_in_range : goal.returns-then-not-length_in_range
 unfolding layer_refusal
-returns-then-not-length_in_range c = rw (no c.length_in_range.ensures c.if-not-length_in_range.true) refl
+returns-then-not-length_in_range c = rw (found c.length_in_range.ensures c.if-not-length_in_range.true) refl
 
 pub is_whole-requires : goal.is_whole-requires
-is_whole-requires c = some c.args.length (yes' c.length_in_range.ensures c.if-not-length_in_range.false)
+is_whole-requires c = some c.args.length (found c.length_in_range.ensures c.if-not-length_in_range.false)
 
 pub returns-then-not-is_whole : goal.returns-then-not-is_whole
 unfolding layer_refusal
 returns-then-not-is_whole c =
-    let l = c in
-    rw (yes' l.length_in_range.ensures l.if-not-length_in_range.false, no c.is_whole.ensures c.if-not-is_whole.true) refl
+    rw (found c.length_in_range.ensures c.if-not-length_in_range.false, found c.is_whole.ensures c.if-not-is_whole.true) refl
 
 pub returns-then-not-beside : goal.returns-then-not-beside
 unfolding layer_refusal
 returns-then-not-beside c =
-    let w = c in
-    let l = w in
-    rw (yes' l.length_in_range.ensures l.if-not-length_in_range.false, yes' w.is_whole.ensures w.if-not-is_whole.false, not-true l.args.beside c.if-not-beside.true) refl
+    rw (found c.length_in_range.ensures c.if-not-length_in_range.false, found c.is_whole.ensures c.if-not-is_whole.false, c.if-not-beside.true) refl
 
 pub nonzero_div-n : goal.nonzero_div-n
 nonzero_div-n c =
-    let l = c in
-    some l.args.length (yes' l.length_in_range.ensures l.if-not-length_in_range.false)
+    some c.args.length (found c.length_in_range.ensures c.if-not-length_in_range.false)
 
 pub returns-then-not-one_each : goal.returns-then-not-one_each
 unfolding layer_refusal
 returns-then-not-one_each c =
-    let w = c in
-    let l = w in
     rw (
-      yes' l.length_in_range.ensures l.if-not-length_in_range.false,
-      yes' w.is_whole.ensures w.if-not-is_whole.false,
-      not-false l.args.beside c.if-not-beside.false,
-      no c.one_each.ensures c.if-not-one_each.true,
+      found c.length_in_range.ensures c.if-not-length_in_range.false,
+      found c.is_whole.ensures c.if-not-is_whole.false,
+      c.if-not-beside.false,
+      found c.one_each.ensures c.if-not-one_each.true,
     )
     refl
 
 pub returns-then-not-all_widths : goal.returns-then-not-all_widths
 unfolding layer_refusal
 returns-then-not-all_widths c =
-    let e = c in
-    let w = e in
-    let l = w in
     rw (
-      yes' l.length_in_range.ensures l.if-not-length_in_range.false,
-      yes' w.is_whole.ensures w.if-not-is_whole.false,
-      not-false l.args.beside e.if-not-beside.false,
-      yes' e.one_each.ensures e.if-not-one_each.false,
-      no c.all_widths.ensures c.if-not-all_widths.true,
+      found c.length_in_range.ensures c.if-not-length_in_range.false,
+      found c.is_whole.ensures c.if-not-is_whole.false,
+      c.if-not-beside.false,
+      found c.one_each.ensures c.if-not-one_each.false,
+      found c.all_widths.ensures c.if-not-all_widths.true,
     )
     refl
 
 pub returns : goal.returns
 unfolding layer_refusal
 returns c =
-    let e = c in
-    let w = e in
-    let l = w in
     rw (
-      yes' l.length_in_range.ensures l.if-not-length_in_range.false,
-      yes' w.is_whole.ensures w.if-not-is_whole.false,
-      not-false l.args.beside e.if-not-beside.false,
-      yes' e.one_each.ensures e.if-not-one_each.false,
-      yes' c.all_widths.ensures c.if-not-all_widths.false,
+      found c.length_in_range.ensures c.if-not-length_in_range.false,
+      found c.is_whole.ensures c.if-not-is_whole.false,
+      c.if-not-beside.false,
+      found c.one_each.ensures c.if-not-one_each.false,
+      found c.all_widths.ensures c.if-not-all_widths.false,
     )
     refl

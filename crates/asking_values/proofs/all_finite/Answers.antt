@@ -15,12 +15,12 @@ loop-i-init c = (omega arith, refl)
 pub returns-then-not-is_finite : goal.returns-then-not-is_finite
 returns-then-not-is_finite c =
     let at = c in
-    left_fails finite_float nan _ at.loop-i.i (omega arith) (sym c.is_finite.ensures ∙ not-true _ c.if-not-is_finite.true) at.loop-i.invariant.1
+    left_fails finite_float nan _ at.loop-i.i (omega arith) (sym c.is_finite.ensures ∙ c.if-not-is_finite.true) at.loop-i.invariant.1
 
 pub loop-i-preserved : goal.loop-i-preserved
 loop-i-preserved c =
     let at = c in
-    (omega arith, left_passes finite_float nan _ at.loop-i.i (omega arith) (sym c.is_finite.ensures ∙ not-false _ c.if-not-is_finite.false) at.loop-i.invariant.1)
+    (omega arith, left_passes finite_float nan _ at.loop-i.i (omega arith) (sym c.is_finite.ensures ∙ c.if-not-is_finite.false) at.loop-i.invariant.1)
 
 pub returns : goal.returns
 returns c = left_none finite_float nan _ c.loop-i.i (omega arith) c.loop-i.invariant.1

@@ -21,7 +21,7 @@ returns-then-not-is_step c =
     let at = c in
     let z = get_or at.args.exponents.now at.loop-i.i (pos 0) in
     let fit : SFits w32 z = search rules in
-    let e = sym (c.is_step.ensures ∙ ap exponent_in_range (to_z-of_z fit)) ∙ not-true _ c.if-not-is_step.true in
+    let e = sym (c.is_step.ensures ∙ ap exponent_in_range (to_z-of_z fit)) ∙ c.if-not-is_step.true in
     left_fails exponent_in_range (pos 0) _ at.loop-i.i (omega arith) e at.loop-i.invariant.1
 
 pub loop-i-preserved : goal.loop-i-preserved
@@ -29,7 +29,7 @@ loop-i-preserved c =
     let at = c in
     let z = get_or at.args.exponents.now at.loop-i.i (pos 0) in
     let fit : SFits w32 z = search rules in
-    let e = sym (c.is_step.ensures ∙ ap exponent_in_range (to_z-of_z fit)) ∙ not-false _ c.if-not-is_step.false in
+    let e = sym (c.is_step.ensures ∙ ap exponent_in_range (to_z-of_z fit)) ∙ c.if-not-is_step.false in
     (omega arith, left_passes exponent_in_range (pos 0) _ at.loop-i.i (omega arith) e at.loop-i.invariant.1)
 
 pub returns : goal.returns

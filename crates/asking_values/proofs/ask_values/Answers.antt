@@ -12,18 +12,18 @@ returns-then-lengths-ne0 c = simp (ne_eqb _ 0 c.if-lengths-ne0.true)
 pub returns-then-not-known : goal.returns-then-not-known
 unfolding refusal_of
 returns-then-not-known c =
-    let s = c in simp (eq-eqb _ 0 s.if-lengths-ne0.false, sym s.layers_known-known.ensures ∙ not-true _ c.if-not-known.true)
+    let s = c in simp (eq-eqb _ 0 s.if-lengths-ne0.false, sym s.layers_known-known.ensures ∙ c.if-not-known.true)
 
 pub returns-then-not-nan : goal.returns-then-not-nan
 unfolding refusal_of
 returns-then-not-nan c =
     let s = c in
-    let k = sym s.layers_known-known.ensures ∙ not-false _ c.if-not-known.false in
-    simp (eq-eqb _ 0 s.if-lengths-ne0.false, k, sym c.is_nan-nan.ensures ∙ not-true _ c.if-not-nan.true)
+    let k = sym s.layers_known-known.ensures ∙ c.if-not-known.false in
+    simp (eq-eqb _ 0 s.if-lengths-ne0.false, k, sym c.is_nan-nan.ensures ∙ c.if-not-nan.true)
 
 pub returns : goal.returns
 unfolding refusal_of
 returns c =
     let s = c in
-    let k = sym s.layers_known-known.ensures ∙ not-false _ c.if-not-known.false in
-    simp (eq-eqb _ 0 s.if-lengths-ne0.false, k, sym c.is_nan-nan.ensures ∙ not-false _ c.if-not-nan.false)
+    let k = sym s.layers_known-known.ensures ∙ c.if-not-known.false in
+    simp (eq-eqb _ 0 s.if-lengths-ne0.false, k, sym c.is_nan-nan.ensures ∙ c.if-not-nan.false)

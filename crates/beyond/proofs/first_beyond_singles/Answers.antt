@@ -7,13 +7,14 @@ use Rattle.asking.specs.Asked.{refusal_of, asked_number}
 use Rattle.beyond.specs.Answers.{answer_of}
 use Rattle.beyond.proofs.Calls.{refused_first, none_refused, in_range, single_limit}
 use Rattle.beyond.proofs.first_beyond_singles.Goals as goal
+use Rattle.beyond.proofs.first_beyond_singles.Goals.{After-ask_single-asked}
 
 -- Refused or accepted, by the laws of `Calls`.
 -- what was asked of p: the refusal's number, and p counted from the exponent of the least spacing
-refusal : (c : goal.After-ask_single-asked) → c.ask_single-asked.result.refusal ≡ refusal_of 23 8 5 c.args.p
+refusal : (c : After-ask_single-asked) → c.ask_single-asked.result.refusal ≡ refusal_of 23 8 5 c.args.p
 refusal c = c.ask_single-asked.ensures.refusal ∙ ap (λ (z : ℤ). refusal_of 23 8 5 z) (to_z-of_z c.ranges.p)
 
-number : (c : goal.After-ask_single-asked) → c.ask_single-asked.result.number ≡ asked_number 23 8 5 c.args.p
+number : (c : After-ask_single-asked) → c.ask_single-asked.result.number ≡ asked_number 23 8 5 c.args.p
 number c = c.ask_single-asked.ensures.number ∙ ap (λ (z : ℤ). asked_number 23 8 5 z) (to_z-of_z c.ranges.p)
 
 pub returns-then-refusal-ne0 : goal.returns-then-refusal-ne0

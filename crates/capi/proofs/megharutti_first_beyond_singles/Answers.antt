@@ -12,4 +12,5 @@ pub returns : goal.returns
 returns c =
     let s = c in
     let answer =
-    c.first_beyond_singles-answer.ensures ∙ ap (λ (z : ℤ). first_beyond_singles s.args.mark z s.args.raw.now s.args.trimmed.now) (to_z-of_z s.ranges.p) in record {answer = c.hand_place.ensures.number ∙ ap number_for_c answer; found = c.hand_place.ensures.found ∙ ap (λ (o : Outcome Compared). found_for_c o s.args.found.now) answer; }
+    c.first_beyond_singles-answer.ensures ∙ ap (λ (z : ℤ). first_beyond_singles s.args.mark z s.args.raw.now s.args.trimmed.now) (to_z-of_z s.ranges.p) in
+    record {answer = c.hand_place.ensures.number ∙ ap number_for_c answer; found = c.hand_place.ensures.found ∙ ap (λ (o : Outcome Compared). found_for_c o s.args.found.now) answer; }

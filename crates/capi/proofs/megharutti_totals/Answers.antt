@@ -9,4 +9,5 @@ use Rattle.capi.proofs.megharutti_totals.Goals as goal
 pub returns : goal.returns
 returns c =
     let before = c.args.out.now in
-    let answer = c.totals-answer.ensures in record {answer = c.hand_totals.ensures.number ∙ ap number_for_c answer; totals = c.hand_totals.ensures.totals ∙ ap (λ (o : Outcome Totals). totals_for_c o before) answer; }
+    let answer = c.totals-answer.ensures in
+    record {answer = c.hand_totals.ensures.number ∙ ap number_for_c answer; totals = c.hand_totals.ensures.totals ∙ ap (λ (o : Outcome Totals). totals_for_c o before) answer; }

@@ -12,7 +12,6 @@ use Rattle.capi.proofs.megharutti_trim_doubles.Goals as goal
 pub returns : goal.returns
 returns c =
     let s = c in
-    let t = (c.trim_doubles-answer.ensures.answer, c.trim_doubles-answer.ensures.content) in
     let after = ap (λ (z : ℤ). trim_doubles s.args.method z s.args.mark s.args.readings.now) (to_z-of_z s.ranges.setting) in
     let answer = c.trim_doubles-answer.ensures.answer ∙ ap (λ (a : AfterTrim). a.answer) after in
-    let h = (c.hand_over.ensures.number, c.hand_over.ensures.counted) in record {answer = c.hand_over.ensures.number ∙ ap number_for_c answer; content = c.trim_doubles-answer.ensures.content ∙ ap (λ (a : AfterTrim). a.readings) after; counted = c.hand_over.ensures.counted ∙ ap (λ (o : Outcome Counts). counts_for_c o s.args.counts.now) answer; }
+    record {answer = c.hand_over.ensures.number ∙ ap number_for_c answer; content = c.trim_doubles-answer.ensures.content ∙ ap (λ (a : AfterTrim). a.readings) after; counted = c.hand_over.ensures.counted ∙ ap (λ (o : Outcome Counts). counts_for_c o s.args.counts.now) answer; }

@@ -6,4 +6,4 @@ use Rattle.capi.proofs.megharutti_unpack.Goals as goal
 
 pub returns : goal.returns
 returns c =
-    let p = (c.unpack-answer.ensures.answer, c.unpack-answer.ensures.content) in record {answer = c.unpacked_number.ensures ∙ ap number_for_c c.unpack-answer.ensures.answer; content = c.unpack-answer.ensures.content; }
+    record {answer = c.unpacked_number.ensures ∙ ap number_for_c c.unpack-answer.ensures.answer; content = c.unpack-answer.ensures.content; }

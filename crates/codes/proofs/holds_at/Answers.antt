@@ -6,25 +6,9 @@ use Rattle.codes.specs.Cut.{reading_of}
 use Rattle.codes.proofs.Reading.{Test, test_even, both_law, test_law, reading_lost, sign_small}
 use Rattle.codes.proofs.holds_at.Goals as goal
 
-test_at : (c : goal.After-top_of-top)
-    → Test c.args.steps c.args.hi c.args.lo
-    c.args.e c.wrapping_add_u64-d.result
-    (c.cut_reading-a.result.lost + c.cut_reading-b.result.lost)
-test_at c =
-    let at = c in
-    let s = at.args in
-    let t = c.unit_of-s in
-    let x = c.cut_reading-a in
-    let y = c.cut_reading-b in
-    test_law s.hi s.lo (sign_small s.lo (omega arith)) (omega arith) (omega arith) (omega arith) s.steps (omega arith) s.e (omega arith) t.result x.result y.result
-    t.ensures x.ensures (y.ensures ∙ ap (λ (z : ℕ). reading_of z t.result) c.opposite-o.ensures)
-    c.wrapping_add_u64-d.result c.wrapping_add_u64-d.ensures.value c.if-lost-eq2.false
-
-top-at : (c : goal.After-top_of-top)
-    → c.top_of-top.result ≡ c.args.steps * 2 ^ (c.args.e + 1 - (c.args.e - 39))
-top-at c =
-    let s = c.args in
-    c.top_of-top.ensures ∙ ap (λ (z : ℕ). s.steps * 2 ^ (s.e + 1 - z)) c.unit_of-s.ensures
+-- so many steps, in the units that sizes are cut to
+top_at : (top steps e s : ℕ) → top ≡ steps * 2 ^ (e + 1 - s) → s ≡ e - 39 → top ≡ steps * 2 ^ (e + 1 - (e - 39))
+top_at top steps e s t u = t ∙ ap (λ (z : ℕ). steps * 2 ^ (e + 1 - z)) u
 
 pub cut_reading-b-requires : goal.cut_reading-b-requires
 cut_reading-b-requires c =
@@ -47,12 +31,38 @@ returns-then-lost-eq2 c =
     t.ensures x.ensures (y.ensures ∙ ap (λ (z : ℕ). reading_of z t.result) c.opposite-o.ensures) c.if-lost-eq2.true))
 
 pub returns-then-d-top : goal.returns-then-d-top
-returns-then-d-top c = sym (le-leb _ _ ((test_at c.before).under (omega (arith, top-at c.before))))
+returns-then-d-top c =
+    let s = c.args in
+    let t = c.unit_of-s in
+    let x = c.cut_reading-a in
+    let y = c.cut_reading-b in
+    let d = c.wrapping_add_u64-d in
+    let test = test_law s.hi s.lo (sign_small s.lo (omega arith)) (omega arith) (omega arith) (omega arith) s.steps (omega arith) s.e (omega arith) t.result x.result y.result
+    t.ensures x.ensures (y.ensures ∙ ap (λ (z : ℕ). reading_of z t.result) c.opposite-o.ensures) d.result d.ensures.value c.if-lost-eq2.false in
+    let top = top_at _ s.steps s.e t.result c.top_of-top.ensures t.ensures in
+    sym (le-leb _ _ (test.under (omega (arith, top))))
 
 pub returns-then-top-d : goal.returns-then-top-d
-returns-then-top-d c = sym (lt-leb _ _ ((test_at c.before.before).over (omega (arith, top-at c.before.before))))
+returns-then-top-d c =
+    let s = c.args in
+    let t = c.unit_of-s in
+    let x = c.cut_reading-a in
+    let y = c.cut_reading-b in
+    let d = c.wrapping_add_u64-d in
+    let test = test_law s.hi s.lo (sign_small s.lo (omega arith)) (omega arith) (omega arith) (omega arith) s.steps (omega arith) s.e (omega arith) t.result x.result y.result
+    t.ensures x.ensures (y.ensures ∙ ap (λ (z : ℕ). reading_of z t.result) c.opposite-o.ensures) d.result d.ensures.value c.if-lost-eq2.false in
+    let top = top_at _ s.steps s.e t.result c.top_of-top.ensures t.ensures in
+    sym (lt-leb _ _ (test.over (omega (arith, top))))
 
 pub returns : goal.returns
 returns c =
-    let same : c.wrapping_add_u64-d.result ≡ c.top_of-top.result = omega arith in
-    test_even _ _ _ _ _ _ (test_at c.before.before) (same ∙ top-at c.before.before)
+    let s = c.args in
+    let t = c.unit_of-s in
+    let x = c.cut_reading-a in
+    let y = c.cut_reading-b in
+    let d = c.wrapping_add_u64-d in
+    let test = test_law s.hi s.lo (sign_small s.lo (omega arith)) (omega arith) (omega arith) (omega arith) s.steps (omega arith) s.e (omega arith) t.result x.result y.result
+    t.ensures x.ensures (y.ensures ∙ ap (λ (z : ℕ). reading_of z t.result) c.opposite-o.ensures) d.result d.ensures.value c.if-lost-eq2.false in
+    let top = top_at _ s.steps s.e t.result c.top_of-top.ensures t.ensures in
+    let same : d.result ≡ c.top_of-top.result = omega arith in
+    test_even _ _ _ _ _ _ test (same ∙ top)

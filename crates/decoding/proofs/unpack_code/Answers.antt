@@ -15,7 +15,7 @@ value_of-double-requires c = c.requires
 pub float_to_bits-double : goal.float_to_bits-double
 float_to_bits-double c =
     let s = c in
-    subst Number (sym c.value_of_lem.ensures) (unpacked_number s.args.l s.args.code (omega arith) s.requires)
+    subst Number (sym c.value_of-double.ensures) (unpacked_number s.args.l s.args.code (omega arith) s.requires)
 
 pub returns-then-code-l : goal.returns-then-code-l
 unfolding decoded
@@ -23,4 +23,4 @@ returns-then-code-l c = rw c.if-code-l.true refl
 
 pub returns-else-code-l : goal.returns-else-code-l
 unfolding decoded
-returns-else-code-l c = rw c.if-code-l.false (ap (to_bits binary64) c.value_of_lem.ensures)
+returns-else-code-l c = rw c.if-code-l.false (ap (to_bits binary64) c.value_of-double.ensures)

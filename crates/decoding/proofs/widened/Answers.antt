@@ -27,11 +27,11 @@ step_of-requires c = refl
 pub returns-then-w-lt2147483648 : goal.returns-then-w-lt2147483648
 returns-then-w-lt2147483648 c =
     let s = c in
-    ap (λ (y : Float). mul binary64 (of_int binary64 (pos (to_bits binary32 s.args.reference % 2147483648))) y) c.step_of_lem.ensures
+    ap (λ (y : Float). mul binary64 (of_int binary64 (pos (to_bits binary32 s.args.reference % 2147483648))) y) c.step_of.ensures
     ∙ widened_plus s.args.reference (search rules) s.requires (omega arith) (omega arith)
 
 pub returns-else-w-lt2147483648 : goal.returns-else-w-lt2147483648
 returns-else-w-lt2147483648 c =
     let s = c in
-    ap (λ (y : Float). neg (mul binary64 (of_int binary64 (pos (to_bits binary32 s.args.reference % 2147483648))) y)) c.step_of_lem.ensures
+    ap (λ (y : Float). neg (mul binary64 (of_int binary64 (pos (to_bits binary32 s.args.reference % 2147483648))) y)) c.step_of.ensures
     ∙ widened_minus s.args.reference (search rules) s.requires (omega arith) (omega arith)

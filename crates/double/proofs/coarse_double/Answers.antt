@@ -7,27 +7,28 @@ use Rattle.reading.specs.Left.{over}
 use Rattle.reading.proofs.Words.{chosen_lt, finite_or_zero}
 use Rattle.reading.proofs.Settled.{settled_by_lem}
 use Rattle.double.proofs.coarse_double.Goals as goal
+use Rattle.double.proofs.coarse_double.Goals.{After-below_double-a, After-coarse_double-step}
 
 -- what is handed on is a finite magnitude
-finite : (c : goal.After-below_double-a) → c.below_double-a.result < infinity 52 11
+finite : (c : After-below_double-a) → c.below_double-a.result < infinity 52 11
 unfolding infinity
 finite c =
     subst (λ (a : ℕ). a < infinity 52 11) (sym c.below_double-a.ensures)
     (chosen_lt (c.args.x % 2 ^ 63) 0 (infinity 52 11) (infinity 52 11) (le_refl (infinity 52 11)) (lit≤ tt))
 
 -- and so is what comes back
-back : (c : goal.After-coarse_double-step) → c.coarse_double-step.result.magnitude < infinity 52 11
+back : (c : After-coarse_double-step) → c.coarse_double-step.result.magnitude < infinity 52 11
 back c =
     let q = c.args.q in
     subst (λ (n : ℕ). n < infinity 52 11) (sym c.coarse_double-step.ensures.magnitude) (new_below 52 11 (absolute q) tt 0 c.below_double-a.result (finite c.before))
 
 pub coarse_double-step-requires : goal.coarse_double-step-requires
 unfolding infinity
-coarse_double-step-requires c = finite c
+coarse_double-step-requires c = finite (goal.at.coarse_double-step-requires c).After-below_double-a
 
 pub overflow_add-x : goal.overflow_add-x
 unfolding infinity
-overflow_add-x c = omega (arith, back c.before)
+overflow_add-x c = omega (arith, back (goal.at.overflow_add-x c).After-coarse_double-step)
 
 pub returns : goal.returns
 unfolding magnitude over

@@ -8,8 +8,9 @@ use Rattle.reading.proofs.Words.{floor_room}
 use Rattle.reading.proofs.Tails.{mask_cut, settled_tail_lem}
 use Rattle.double.specs.Left.{settled_of, constants_of}
 use Rattle.double.proofs.tail_double.Goals as goal
+use Rattle.double.proofs.tail_double.Goals.{After-settle_double}
 
-words : (c : goal.After-settle_double)
+words : (c : After-settle_double)
     → let s = c.args in
     settled_of c.settle_double.result ≡ settled_from 52 11 s.mark s.x (tail_word 52 11 (constants_of s.tail) s.add s.x) 0
 unfolding tail_word finite magnitude
@@ -29,4 +30,4 @@ overflow_add-y c =
 
 pub returns : goal.returns
 returns c =
-    let s = c in record {result = words c ∙ settled_tail_lem 52 11 (constants_of s.args.tail) s.requires.0 s.args.mark s.args.x s.args.add; words = words c; }
+    let s = c in record {result = words (goal.at.returns c).After-settle_double ∙ settled_tail_lem 52 11 (constants_of s.args.tail) s.requires.0 s.args.mark s.args.x s.args.add; words = words (goal.at.returns c).After-settle_double; }

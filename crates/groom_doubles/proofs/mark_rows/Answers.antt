@@ -51,4 +51,5 @@ loop-a-preserved c =
 pub returns : goal.returns
 returns c =
     let at = c.loop-a in
-    let s = c.args in record {long = at.invariant.1; content = rows_end 52 11 s.mark s.block.now at.invariant.0 (omega (arith, at.invariant.2)); }
+    let s = c.args in
+    record {long = at.invariant.1; content = rows_end 52 11 s.mark s.block.now at.invariant.0 (omega (arith, at.invariant.2)); }

@@ -12,9 +12,10 @@ use Rattle.loops.proofs.Tallies.{one_tail}
 use Rattle.loops.proofs.Walks.{Walk, begin, room, step, end}
 use Rattle.rows.specs.Rows.{fill_at}
 use Rattle.groom_singles.proofs.groom_row.Goals as goal
+use Rattle.groom_singles.proofs.groom_row.Goals.{After-tail_single-one}
 
 -- the reading at this column
-is : (c : goal.After-tail_single-one)
+is : (c : After-tail_single-one)
     → let s = c.args in
     let at = c.loop-i in
     settled_of c.tail_single-one.result ≡ settled_tail 23 8 s.tail.bits (fill_at s.turns.now s.bit s.want s.tail.ones at.i) s.mark (get_or at.row at.i 0)
@@ -31,10 +32,11 @@ pub tail_single-one-requires : goal.tail_single-one-requires
 tail_single-one-requires c = (c.requires.0, c.filling-add.ensures.most)
 
 pub plus-sums-requires : goal.plus-sums-requires
-plus-sums-requires c = room c.loop-i.invariant (omega arith) (is c)
+plus-sums-requires c = room c.loop-i.invariant (omega arith) (is (goal.at.plus-sums-requires c).After-tail_single-one)
 
 pub loop-i-preserved : goal.loop-i-preserved
-loop-i-preserved c = step c.loop-i.invariant (omega arith) (is c.before) c.plus-sums.ensures (add-one _)
+loop-i-preserved c = step c.loop-i.invariant (omega arith) (is (goal.at.loop-i-preserved c).After-tail_single-one) c.plus-sums.ensures (add-one _)
 
 pub returns : goal.returns
-returns c = let it = end c.loop-i.invariant (omega arith) in record { sums = it.0; content = it.1; }
+returns c = let it = end c.loop-i.invariant (omega arith) in
+    record { sums = it.0; content = it.1; }

@@ -15,9 +15,10 @@ use Rattle.loops.proofs.Turns.{states_two, told_walked, told_tallied}
 use Rattle.rows.specs.Rows.{fill_at}
 use Rattle.rows.proofs.Rows.{row_is, rest_same, filled}
 use Rattle.groom_singles.proofs.groom_rows.Goals as goal
+use Rattle.groom_singles.proofs.groom_rows.Goals.{After-groom_row-row}
 
 -- each column of this row gets what its turn says, and so does what comes after it
-columns : (c : goal.After-groom_row-row)
+columns : (c : After-groom_row-row)
     → let s = c.args in
     let at = c.loop-a in
     let bit = c.row_bit-bit.result in
@@ -35,7 +36,7 @@ columns c =
     (ap (take k) at.invariant.3 ∙ row_is ws at.a at.r k at.invariant.2 (omega (arith, at.invariant.0.same)) (omega (arith, n.ensures, at.invariant.0.same)))
 
 -- and so the row is walked as the whole is
-walks : (c : goal.After-groom_row-row)
+walks : (c : After-groom_row-row)
     → let s = c.args in
     let at = c.loop-a in
     let n = c.at_most-n.result in
@@ -79,7 +80,7 @@ join-sums-requires c =
     let at = c.loop-a in
     let n = c.at_most-n in
     let k = at.a + n.result - at.a in
-    few_wider _ (at.a + k) 0xffff_ffff_ffff_ffff (omega (arith, n.ensures, at.invariant.0.same)) (few_part at.invariant.0 k (omega (arith, n.ensures)) (walks c.before.before).0)
+    few_wider _ (at.a + k) 0xffff_ffff_ffff_ffff (omega (arith, n.ensures, at.invariant.0.same)) (few_part at.invariant.0 k (omega (arith, n.ensures)) (walks (goal.at.join-sums-requires c).After-groom_row-row).0)
 
 pub bounds-turns-n : goal.bounds-turns-n
 bounds-turns-n c = omega (arith, c.at_most-n.ensures)
@@ -94,11 +95,12 @@ pub loop-a-smaller : goal.loop-a-smaller
 loop-a-smaller c = omega (arith, c.at_most-n.ensures)
 
 pub loop-a-preserved : goal.loop-a-preserved
+unfolding fill_at
 loop-a-preserved c =
     let s = c.args in
     let at = c.loop-a in
     let n = c.at_most-n in
-    let row = c.before.before.before.before.before in
+    let row = (goal.at.loop-a-preserved c).After-groom_row-row in
     let k = at.a + n.result - at.a in
     let now = take k (drop at.a at.block) in
     let next = filling_after 23 8 s.tail.ones s.mark in
@@ -116,4 +118,5 @@ loop-a-preserved c =
 pub returns : goal.returns
 returns c =
     let at = c.loop-a in
-    let done = end at.invariant.0 (omega arith) in record {sums = done.0; add = end_state at.invariant.0 (omega arith); content = done.1; }
+    let done = end at.invariant.0 (omega arith) in
+    record {sums = done.0; add = end_state at.invariant.0 (omega arith); content = done.1; }

@@ -11,4 +11,5 @@ returns c =
     let a = rw c.in_turn_singles.ensures.content at c.pack.ensures.answer in
     let k = rw c.in_turn_singles.ensures.content at c.pack.ensures.codes in
     let r = rw c.in_turn_singles.ensures.content at c.pack.ensures.references in
-    let e = rw c.in_turn_singles.ensures.content at c.pack.ensures.exponents in record {readings = search rules; answer = search rules; codes = search rules; references = search rules; exponents = search rules; promised = c.in_turn_singles.ensures.promised; claim = pack_promised _ _ _ _ c.in_turn_singles.ensures.content a k r e; }
+    let e = rw c.in_turn_singles.ensures.content at c.pack.ensures.exponents in
+    record {readings = search rules; answer = search rules; codes = search rules; references = search rules; exponents = search rules; promised = c.in_turn_singles.ensures.promised; claim = pack_promised _ _ _ _ c.in_turn_singles.ensures.content a k r e; }

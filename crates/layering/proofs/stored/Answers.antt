@@ -20,8 +20,11 @@ small e h = go (dec_lt e 149)
 difference : (e : ℕ) → e ≤ 277 → to_z w32 e -ℤ pos 149 ≡ sub_ℕ e 149
 difference e h = ap (λ (z : ℤ). z -ℤ pos 149) (to_z_pos w32 {n = e} (omega arith))
 
+fits : (e : ℕ) → e ≤ 277 → SFits w32 (to_z w32 e -ℤ pos 149)
+fits e h = subst (SFits w32) (sym (difference e h)) (small e h)
+
 pub overflow_sub-result : goal.overflow_sub-result
-overflow_sub-result c = subst (SFits w32) (sym (difference c.args.e c.requires)) (small c.args.e c.requires)
+overflow_sub-result c = fits c.args.e c.requires
 
 pub returns : goal.returns
-returns c = to_z-of_z (sub-result c) ∙ difference c.args.e c.requires
+returns c = to_z-of_z (fits c.args.e c.requires) ∙ difference c.args.e c.requires

@@ -9,5 +9,6 @@ pub returns : goal.returns
 returns c =
     let s = c in
     let job = s.args.job in
-    let part = (c.part_doubles-part.ensures.sums, (c.part_doubles-part.ensures.add, c.part_doubles-part.ensures.content)) in let it = block_done (next_with 52 11 job.method job.n s.args.mark) (settled_with 52 11 job.method job.n s.args.mark) 8 s.args.n s.args.at (length s.args.room.now) s.args.add s.args.planes.now s.requires.2
-    c.read_doubles.ensures c.part_doubles-part.ensures.sums c.part_doubles-part.ensures.add c.part_doubles-part.ensures.content c.write_doubles.ensures in record { sums = it.0; add = it.1.0; content = it.1.1; }
+    let it = block_done (next_with 52 11 job.method job.n s.args.mark) (settled_with 52 11 job.method job.n s.args.mark) 8 s.args.n s.args.at (length s.args.room.now) s.args.add s.args.planes.now s.requires.2
+    c.read_doubles.ensures c.part_doubles-part.ensures.sums c.part_doubles-part.ensures.add c.part_doubles-part.ensures.content c.write_doubles.ensures in
+    record { sums = it.0; add = it.1.0; content = it.1.1; }

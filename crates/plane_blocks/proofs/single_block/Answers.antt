@@ -9,5 +9,6 @@ pub returns : goal.returns
 returns c =
     let s = c in
     let job = s.args.job in
-    let part = (c.part_singles-part.ensures.sums, (c.part_singles-part.ensures.add, c.part_singles-part.ensures.content)) in let it = block_done (next_with 23 8 job.method job.n s.args.mark) (settled_with 23 8 job.method job.n s.args.mark) 4 s.args.n s.args.at (length s.args.room.now) s.args.add s.args.planes.now s.requires.2
-    c.read_singles.ensures c.part_singles-part.ensures.sums c.part_singles-part.ensures.add c.part_singles-part.ensures.content c.write_singles.ensures in record { sums = it.0; add = it.1.0; content = it.1.1; }
+    let it = block_done (next_with 23 8 job.method job.n s.args.mark) (settled_with 23 8 job.method job.n s.args.mark) 4 s.args.n s.args.at (length s.args.room.now) s.args.add s.args.planes.now s.requires.2
+    c.read_singles.ensures c.part_singles-part.ensures.sums c.part_singles-part.ensures.add c.part_singles-part.ensures.content c.write_singles.ensures in
+    record { sums = it.0; add = it.1.0; content = it.1.1; }

@@ -49,9 +49,11 @@ loop-a-preserved c =
     let k = c.at_most-k in
     let r = c.single_block-part in
     let l = front_long at.room k.result (omega (arith, k.ensures)) in
-    let e = rw l at (r.ensures.sums, (r.ensures.add, r.ensures.content)) in (
-      turn (next_with 23 8 s.args.job.method s.args.job.n s.args.mark) (settled_with 23 8 s.args.job.method s.args.job.n s.args.mark) 4 s.args.n s.args.planes.now s.requires.2 (one_with 23 8 s.args.job.method s.args.job.n s.args.mark) at.invariant.0 k.result (omega (arith, k.ensures)) e.0 c.join_totals-sums.ensures e.1.0 e.1.1,
-      (filling_block 23 8 s.args.job.method s.args.job.n s.args.mark (fetched 4 s.args.n at.a k.result at.planes) s.requires.0 at.invariant.1.0 e.1.0, simp (length-append, length-take, length-drop) (omega (arith, at.invariant.1.1, k.ensures))),
+    let sums = rw l at r.ensures.sums in
+    let add = rw l at r.ensures.add in
+    let content = rw l at r.ensures.content in (
+      turn (next_with 23 8 s.args.job.method s.args.job.n s.args.mark) (settled_with 23 8 s.args.job.method s.args.job.n s.args.mark) 4 s.args.n s.args.planes.now s.requires.2 (one_with 23 8 s.args.job.method s.args.job.n s.args.mark) at.invariant.0 k.result (omega (arith, k.ensures)) sums c.join_totals-sums.ensures add content,
+      (filling_block 23 8 s.args.job.method s.args.job.n s.args.mark (fetched 4 s.args.n at.a k.result at.planes) s.requires.0 at.invariant.1.0 add, simp (length-append, length-take, length-drop) (omega (arith, at.invariant.1.1, k.ensures))),
     )
 
 pub shape_of-planes : goal.shape_of-planes
@@ -62,4 +64,6 @@ shape_of-room c = c.loop-a.invariant.1.1
 
 pub returns : goal.returns
 returns c =
-    let s = c in let it = end (next_with 23 8 s.args.job.method s.args.job.n s.args.mark) (settled_with 23 8 s.args.job.method s.args.job.n s.args.mark) 4 s.args.n s.args.planes.now s.requires.2 (one_with 23 8 s.args.job.method s.args.job.n s.args.mark) c.loop-a.invariant.0 (omega arith) in record { sums = it.0; content = it.1; }
+    let s = c in
+    let it = end (next_with 23 8 s.args.job.method s.args.job.n s.args.mark) (settled_with 23 8 s.args.job.method s.args.job.n s.args.mark) 4 s.args.n s.args.planes.now s.requires.2 (one_with 23 8 s.args.job.method s.args.job.n s.args.mark) c.loop-a.invariant.0 (omega arith) in
+    record { sums = it.0; content = it.1; }

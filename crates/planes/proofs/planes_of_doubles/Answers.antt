@@ -10,15 +10,21 @@ use Rattle.planes.proofs.Calls.{to_refused, to_done}
 use Rattle.planes.proofs.planes_of_doubles.Goals as goal
 
 pub returns-then-not-planes_fit : goal.returns-then-not-planes_fit
+unfolding answer_of
 returns-then-not-planes_fit c =
-    let s = c.args in let it = to_refused 8 s.readings.now s.planes.now (sym c.planes_fit.ensures ∙ not-true _ c.if-not-planes_fit.true) in record { answer = it.0; content = it.1; }
+    let s = c.args in
+    let it = to_refused 8 s.readings.now s.planes.now (sym c.planes_fit.ensures ∙ c.if-not-planes_fit.true) in
+    record { answer = it.0; content = it.1; }
 
 pub write_doubles-requires : goal.write_doubles-requires
 write_doubles-requires c =
     let s = c.args in
-    let l = eqb-true (length s.planes.now) (length s.readings.now * 8) (sym c.planes_fit.ensures ∙ not-false _ c.if-not-planes_fit.false) in
+    let l = eqb-true (length s.planes.now) (length s.readings.now * 8) (sym c.planes_fit.ensures ∙ c.if-not-planes_fit.false) in
     (omega arith, omega (arith, l))
 
 pub returns : goal.returns
+unfolding answer_of
 returns c =
-    let s = c.args in let it = to_done 8 s.readings.now s.planes.now (sym c.planes_fit.ensures ∙ not-false _ c.if-not-planes_fit.false) c.write_doubles.ensures in record { answer = it.0; content = it.1; }
+    let s = c.args in
+    let it = to_done 8 s.readings.now s.planes.now (sym c.planes_fit.ensures ∙ c.if-not-planes_fit.false) c.write_doubles.ensures in
+    record { answer = it.0; content = it.1; }

@@ -10,15 +10,21 @@ use Rattle.planes.proofs.Calls.{from_refused, from_done}
 use Rattle.planes.proofs.singles_of_planes.Goals as goal
 
 pub returns-then-not-planes_fit : goal.returns-then-not-planes_fit
+unfolding answer_of
 returns-then-not-planes_fit c =
-    let s = c.args in let it = from_refused 4 s.readings.now s.planes.now (sym c.planes_fit.ensures ∙ not-true _ c.if-not-planes_fit.true) in record { answer = it.0; content = it.1; }
+    let s = c.args in
+    let it = from_refused 4 s.readings.now s.planes.now (sym c.planes_fit.ensures ∙ c.if-not-planes_fit.true) in
+    record { answer = it.0; content = it.1; }
 
 pub read_singles-requires : goal.read_singles-requires
 read_singles-requires c =
     let s = c.args in
-    let l = eqb-true (length s.planes.now) (length s.readings.now * 4) (sym c.planes_fit.ensures ∙ not-false _ c.if-not-planes_fit.false) in
+    let l = eqb-true (length s.planes.now) (length s.readings.now * 4) (sym c.planes_fit.ensures ∙ c.if-not-planes_fit.false) in
     omega (arith, l)
 
 pub returns : goal.returns
+unfolding answer_of
 returns c =
-    let s = c.args in let it = from_done 4 s.readings.now s.planes.now (sym c.planes_fit.ensures ∙ not-false _ c.if-not-planes_fit.false) c.read_singles.ensures in record { answer = it.0; content = it.1; }
+    let s = c.args in
+    let it = from_done 4 s.readings.now s.planes.now (sym c.planes_fit.ensures ∙ c.if-not-planes_fit.false) c.read_singles.ensures in
+    record { answer = it.0; content = it.1; }

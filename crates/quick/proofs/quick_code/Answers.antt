@@ -1,4 +1,8 @@
 use mathlib.Core.Path.{◌≡◌, refl, ap, ◌∙◌}
+use mathlib.Core.Logic.{◌≢◌}
+use mathlib.Core.Bool.{cond}
+use lib.Dec.{eqb}
+use Rattle.codes.specs.Cut.{CanCode}
 use Prim.Native.Nat.{ℕ, ◌+◌, ◌*◌, ◌^◌, ◌<◌}
 use borrow.Author.Rules.{rules}
 use borrow.Author.Tests.{eq-eqb, ne_eqb}
@@ -20,35 +24,37 @@ unfolding lift_of
 lift_is l e h = ap (λ (x : Lift). x.lift) h
 
 -- the pattern that is coded is finite
-finite-coded : (c : goal.After-choose-p) → magnitude 23 8 c.choose-p.result < infinity 23 8
-finite-coded c =
-    let s = c in
-    coded s.args.w s.args.mark s.args.l.reference c.choose-p.result (λ z. (s.requires.can_code z).finite) s.requires.reference_bound c.choose-p.ensures
+finite_coded : (w mark r p e : ℕ) → (w ≢ mark → CanCode w r e) → magnitude 23 8 r < infinity 23 8 → p ≡ cond (eqb w mark) r w → magnitude 23 8 p < infinity 23 8
+finite_coded w mark r p e can f is = coded w mark r p (λ z. (can z).finite) f is
 
 pub float_from_bits-d : goal.float_from_bits-d
-float_from_bits-d c = single_number c.choose-p.result (finite-coded c)
+float_from_bits-d c =
+    let s = c.args in
+    single_number c.choose-p.result (finite_coded s.w s.mark s.l.reference c.choose-p.result s.e c.requires.can_code c.requires.reference_bound c.choose-p.ensures)
 
 pub float_to_float-d : goal.float_to_float-d
-float_to_float-d c = let n = float_number c.choose-p.result (finite-coded c.before) in search rules
+float_to_float-d c =
+    let s = c.args in
+    let n = float_number c.choose-p.result (finite_coded s.w s.mark s.l.reference c.choose-p.result s.e c.requires.can_code c.requires.reference_bound c.choose-p.ensures) in
+    search rules
 
 pub float_to_bits-c : goal.float_to_bits-c
 float_to_bits-c c =
-    let k = c.before.before.before in
-    let s = k in
-    rw (low_is s.args.l s.args.e s.requires.l_value, lift_is s.args.l s.args.e s.requires.l_value)
-    (sum_number k.choose-p.result s.args.l.reference s.args.e (finite-coded k) s.requires.reference_bound s.requires.e_bound)
+    let s = c.args in
+    rw (low_is s.l s.e c.requires.l_value, lift_is s.l s.e c.requires.l_value)
+    (sum_number c.choose-p.result s.l.reference s.e
+    (finite_coded s.w s.mark s.l.reference c.choose-p.result s.e c.requires.can_code c.requires.reference_bound c.choose-p.ensures) c.requires.reference_bound c.requires.e_bound)
 
 pub returns-then-w-mark : goal.returns-then-w-mark
 unfolding missing
-returns-then-w-mark c = let s = c in rw (eq-eqb s.args.w s.args.mark c.if-w-mark.true) refl
+returns-then-w-mark c = rw (eq-eqb c.args.w c.args.mark c.if-w-mark.true) refl
 
 pub returns-else-w-mark : goal.returns-else-w-mark
 unfolding missing
 returns-else-w-mark c =
-    let k = c in
-    let s = k in
+    let s = c.args in
+    let q = c.requires in
     let o = c.if-w-mark.false in
-    let q = s.requires.1 in
-    let p : k.choose-p.result ≡ s.args.w = k.choose-p.ensures ∙ rw (ne_eqb s.args.w s.args.mark o) refl in
-    rw (p, low_is s.args.l s.args.e c.requires.l_value, lift_is s.args.l s.args.e c.requires.l_value, ne_eqb s.args.w s.args.mark o)
-    (quick_code_lem s.args.width s.args.w s.args.l.reference s.args.e s.requires.width_bound (c.requires.can_code o) (c.requires.reference_bound_2 o) c.requires.reference_bound c.requires.e_bound (c.requires.coarse_2 o) c.requires.coarse)
+    let p : c.choose-p.result ≡ s.w = c.choose-p.ensures ∙ rw (ne_eqb s.w s.mark o) refl in
+    rw (p, low_is s.l s.e q.l_value, lift_is s.l s.e q.l_value, ne_eqb s.w s.mark o)
+    (quick_code_lem s.width s.w s.l.reference s.e q.width_bound (q.can_code o) (q.reference_bound_2 o) q.reference_bound q.e_bound (q.coarse_2 o) q.coarse)

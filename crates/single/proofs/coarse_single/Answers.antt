@@ -7,27 +7,28 @@ use Rattle.reading.specs.Left.{over}
 use Rattle.reading.proofs.Words.{chosen_lt, finite_or_zero}
 use Rattle.reading.proofs.Settled.{settled_by_lem}
 use Rattle.single.proofs.coarse_single.Goals as goal
+use Rattle.single.proofs.coarse_single.Goals.{After-below_single-a, After-coarse_single-step}
 
 -- what is handed on is a finite magnitude
-finite : (c : goal.After-below_single-a) → c.below_single-a.result < infinity 23 8
+finite : (c : After-below_single-a) → c.below_single-a.result < infinity 23 8
 unfolding infinity
 finite c =
     subst (λ (a : ℕ). a < infinity 23 8) (sym c.below_single-a.ensures)
     (chosen_lt (c.args.x % 2 ^ 31) 0 (infinity 23 8) (infinity 23 8) (le_refl (infinity 23 8)) (lit≤ tt))
 
 -- and so is what comes back
-back : (c : goal.After-coarse_single-step) → c.coarse_single-step.result.magnitude < infinity 23 8
+back : (c : After-coarse_single-step) → c.coarse_single-step.result.magnitude < infinity 23 8
 back c =
     let q = c.args.q in
     subst (λ (n : ℕ). n < infinity 23 8) (sym c.coarse_single-step.ensures.magnitude) (new_below 23 8 (absolute q) tt 0 c.below_single-a.result (finite c.before))
 
 pub coarse_single-step-requires : goal.coarse_single-step-requires
 unfolding infinity
-coarse_single-step-requires c = finite c
+coarse_single-step-requires c = finite (goal.at.coarse_single-step-requires c).After-below_single-a
 
 pub overflow_add-x : goal.overflow_add-x
 unfolding infinity
-overflow_add-x c = omega (arith, back c.before)
+overflow_add-x c = omega (arith, back (goal.at.overflow_add-x c).After-coarse_single-step)
 
 pub returns : goal.returns
 unfolding magnitude over

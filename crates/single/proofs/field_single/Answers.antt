@@ -6,21 +6,22 @@ use Rattle.reading.proofs.Words.{digits_over}
 use Rattle.reading.proofs.Settled.{settled_by_lem}
 use Rattle.single.proofs.Fields.{second_few, rest_le, ones_fit, new_fits, new_is}
 use Rattle.single.proofs.field_single.Goals as goal
+use Rattle.single.proofs.field_single.Goals.{After-decade_single-s}
 
-few : (c : goal.After-decade_single-s) → c.decade_single-s.result < 2
+few : (c : After-decade_single-s) → c.decade_single-s.result < 2
 few c =
     let s = c in
     second_few s.args.n s.args.x c.decade_single-s.result s.args.limits.now s.args.masks.now
     s.requires.0.0 s.requires.0.1 s.requires.1 s.requires.2 (omega arith) c.decade_single-s.ensures
 
 pub overflow_add-ones : goal.overflow_add-ones
-overflow_add-ones c = omega (arith, few c)
+overflow_add-ones c = omega (arith, few (goal.at.overflow_add-ones c).After-decade_single-s)
 
 pub offset_bounds-masks-f : goal.offset_bounds-masks-f
-offset_bounds-masks-f c = omega (arith, few c)
+offset_bounds-masks-f c = omega (arith, few (goal.at.offset_bounds-masks-f c).After-decade_single-s)
 
 pub bounds-masks-f : goal.bounds-masks-f
-bounds-masks-f c = omega (arith, few c)
+bounds-masks-f c = omega (arith, few (goal.at.bounds-masks-f c).After-decade_single-s)
 
 pub overflow_sub-z : goal.overflow_sub-z
 overflow_sub-z c =

@@ -8,8 +8,9 @@ use Rattle.reading.proofs.Tails.{half_positive, settled_round}
 use Rattle.reading.proofs.Wraps.{wrapped}
 use Rattle.single.specs.Left.{settled_of, constants_of}
 use Rattle.single.proofs.round_single.Goals as goal
+use Rattle.single.proofs.round_single.Goals.{After-settle_single}
 
-words : (c : goal.After-settle_single)
+words : (c : After-settle_single)
     → let s = c.args in
     settled_of c.settle_single.result ≡ settled_from 23 8 s.mark s.x (round_word 23 8 (constants_of s.tail) s.x) (round_over 23 8 (constants_of s.tail) s.x)
 unfolding round_word round_over near_word finite magnitude
@@ -41,4 +42,4 @@ overflow_add-tail-2 c =
 
 pub returns : goal.returns
 returns c =
-    let s = c in record {result = words c ∙ settled_round 23 8 (constants_of s.args.tail) s.requires.0 s.args.mark s.args.x s.requires.1 (search rules); words = words c; }
+    let s = c in record {result = words (goal.at.returns c).After-settle_single ∙ settled_round 23 8 (constants_of s.args.tail) s.requires.0 s.args.mark s.args.x s.requires.1 (search rules); words = words (goal.at.returns c).After-settle_single; }

@@ -41,10 +41,10 @@ pub loop-a-preserved : goal.loop-a-preserved
 loop-a-preserved c =
     let at = c.loop-a in
     let n = c.at_most in
-    let r = (c.plain_singles-sums.ensures.sums, c.plain_singles-sums.ensures.content) in
     let k = at.a + n.result - at.a in
     let ws = take k (drop at.a at.readings) in
     part at.invariant k (omega (arith, n.ensures)) (omega arith) c.plain_singles-sums.ensures.content c.plain_singles-sums.ensures.sums c.join-totals.ensures (stays_at 0 ws (length ws))
 
 pub returns : goal.returns
-returns c = let it = end c.loop-a.invariant (omega arith) in record { sums = it.0; content = it.1; }
+returns c = let it = end c.loop-a.invariant (omega arith) in
+    record { sums = it.0; content = it.1; }

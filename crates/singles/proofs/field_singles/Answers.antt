@@ -31,4 +31,5 @@ loop-i-preserved c =
     (step at.invariant.0 (omega arith) c.field_single-one.ensures c.plus-sums.ensures refl, rest_turn at.readings at.i c.field_single-one.result.pattern at.invariant.1)
 
 pub returns : goal.returns
-returns c = let it = end c.loop-i.invariant.0 (omega arith) in record { sums = it.0; content = it.1; }
+returns c = let it = end c.loop-i.invariant.0 (omega arith) in
+    record { sums = it.0; content = it.1; }

@@ -14,6 +14,7 @@ pub job_single-job-requires : goal.job_single-job-requires
 job_single-job-requires c = c.requires
 
 pub tail_single-requires : goal.tail_single-requires
+unfolding add_at
 tail_single-requires c =
     let j = c.job_single-job in
     let p = c.args.turn in
@@ -21,6 +22,7 @@ tail_single-requires c =
     (suits_tail j.ensures.tail, subst (λ (a : ℕ). a ≤ ones) (sym c.choose_single-add.ensures) (add_below 0 ones p ones zero-le (le_refl ones)))
 
 pub returns-then-job-eq2 : goal.returns-then-job-eq2
+unfolding add_at
 returns-then-job-eq2 c =
     let s = c.args in
     let j = c.job_single-job in

@@ -4,10 +4,11 @@ use Prim.Native.Nat.{ℕ, ◌≤◌, ◌<◌}
 use native.Mathlib.Omega.{arith}
 use Rattle.loops.proofs.Methods.{suits_tail, suits_keep, add_fits, by_tail, by_round, by_absolute, by_digits}
 use Rattle.singles.proofs.plain_single.Goals as goal
+use Rattle.singles.proofs.plain_single.Goals.{Else-job-eq4}
 
 -- By the method's number, each outcome is the method's.
 -- what is left are methods 0 to 3
-low : (c : goal.Else-job-eq4) → c.args.job.method < 4
+low : (c : Else-job-eq4) → c.args.job.method < 4
 low c =
     let s = c in
     let six = c.if-job-eq6.false in
@@ -50,6 +51,6 @@ tail_single-requires c =
 pub returns : goal.returns
 returns c =
     let s = c in
-    let m = low c.before.before in
+    let m = low (goal.at.returns c).Else-job-eq4 in
     c.tail_single.ensures.result
     ∙ by_tail 23 8 s.args.mark s.args.job.method s.args.job.n (suits_keep s.requires.0 (omega (arith, m))) m s.requires.1 c.add_single-add.ensures s.args.x

@@ -5,10 +5,11 @@ use Prim.Native.Nat.{ℕ, ◌≤◌, ◌<◌}
 use native.Mathlib.Omega.{arith}
 use Rattle.loops.proofs.Methods.{suits_tail, suits_keep, add_fits, by_tail, by_round, by_absolute, by_digits, over_all}
 use Rattle.singles.proofs.plain_singles.Goals as goal
+use Rattle.singles.proofs.plain_singles.Goals.{Else-job-eq4}
 
 -- By the method's number, each loop's outcome is the method's.
 -- what is left are methods 0 to 3
-low : (c : goal.Else-job-eq4) → c.args.job.method < 4
+low : (c : Else-job-eq4) → c.args.job.method < 4
 low c =
     let s = c in
     let six = c.if-job-eq6.false in
@@ -24,11 +25,15 @@ digits_part-requires c =
 
 pub returns-then-job-eq6 : goal.returns-then-job-eq6
 returns-then-job-eq6 c =
-    let s = c.args in let it = over_all s.readings.now _ _ (by_digits 23 8 s.mark s.job.method s.job.n c.if-job-eq6.true) (c.digits_part.ensures.sums, c.digits_part.ensures.content) in record { sums = it.0; content = it.1; }
+    let s = c.args in
+    let it = over_all s.readings.now _ _ (by_digits 23 8 s.mark s.job.method s.job.n c.if-job-eq6.true) (c.digits_part.ensures.sums, c.digits_part.ensures.content) in
+    record { sums = it.0; content = it.1; }
 
 pub returns-then-job-eq5 : goal.returns-then-job-eq5
 returns-then-job-eq5 c =
-    let s = c.args in let it = over_all s.readings.now _ _ (by_absolute 23 8 s.mark s.job.method s.job.n c.if-job-eq5.true) (c.step_singles.ensures.sums, c.step_singles.ensures.content) in record { sums = it.0; content = it.1; }
+    let s = c.args in
+    let it = over_all s.readings.now _ _ (by_absolute 23 8 s.mark s.job.method s.job.n c.if-job-eq5.true) (c.step_singles.ensures.sums, c.step_singles.ensures.content) in
+    record { sums = it.0; content = it.1; }
 
 pub rounded_singles-requires : goal.rounded_singles-requires
 rounded_singles-requires c = let p = c.requires in (suits_tail p.0, p.2)
@@ -37,7 +42,9 @@ pub returns-then-job-eq4 : goal.returns-then-job-eq4
 returns-then-job-eq4 c =
     let s = c in
     let four = c.if-job-eq4.true in
-    let m : s.args.job.method ≤ 4 = omega arith in let it = over_all s.args.readings.now _ _ (by_round 23 8 s.args.mark s.args.job.method s.args.job.n (suits_keep s.requires.0 m) (s.requires.0.fitting.keep m) four) (c.rounded_singles.ensures.sums, c.rounded_singles.ensures.content) in record { sums = it.0; content = it.1; }
+    let m : s.args.job.method ≤ 4 = omega arith in
+    let it = over_all s.args.readings.now _ _ (by_round 23 8 s.args.mark s.args.job.method s.args.job.n (suits_keep s.requires.0 m) (s.requires.0.fitting.keep m) four) (c.rounded_singles.ensures.sums, c.rounded_singles.ensures.content) in
+    record { sums = it.0; content = it.1; }
 
 pub tail_singles-requires : goal.tail_singles-requires
 tail_singles-requires c =
@@ -48,6 +55,8 @@ tail_singles-requires c =
 pub returns : goal.returns
 returns c =
     let s = c in
-    let m = low c.before.before.before.before.before in let it = over_all s.args.readings.now _ _
+    let m = low (goal.at.returns c).Else-job-eq4 in
+    let it = over_all s.args.readings.now _ _
     (by_tail 23 8 s.args.mark s.args.job.method s.args.job.n (suits_keep s.requires.0 (omega (arith, m))) m s.requires.1 c.add_single-add.ensures)
-    (c.tail_singles.ensures.sums, c.tail_singles.ensures.content) in record { sums = it.0; content = it.1; }
+    (c.tail_singles.ensures.sums, c.tail_singles.ensures.content) in
+    record { sums = it.0; content = it.1; }

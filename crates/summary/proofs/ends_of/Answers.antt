@@ -1,10 +1,10 @@
 use borrow.Author.Rules.{rules}
 use mathlib.Core.Path.{ap, ◌∙◌}
 use mathlib.Core.Bool.{cond}
-use Prim.Native.Nat.{ℕ, ◌-◌}
+use Prim.Native.Nat.{ℕ}
 use lib.Dec.{eqb}
-use lib.ListN.{length, get_or}
-use Rattle.summary.proofs.Made.{Turn, start, turn, low_end, high_end}
+use lib.ListN.{get_or}
+use Rattle.summary.proofs.Made.{start, turn, low_end, high_end}
 use Rattle.summary.proofs.ends_of.Goals as goal
 
 pub loop-i-init : goal.loop-i-init
@@ -22,4 +22,4 @@ loop-i-preserved c =
 
 pub returns : goal.returns
 returns c =
-    let l = c.loop-i in record {low = low_end _ _ _ _ _ l.invariant (search rules); high = high_end _ _ _ _ _ l.invariant (search rules); }
+    let l = c.loop-i in record { low = low_end _ _ _ _ _ l.invariant (search rules); high = high_end _ _ _ _ _ l.invariant (search rules) }

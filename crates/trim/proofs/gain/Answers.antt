@@ -9,4 +9,5 @@ pub returns : goal.returns
 returns c =
     let s = c in
     let risen = c.wide-risen.ensures in
-    let fallen = c.wide-fallen.ensures in record {value = rw (fallen, risen) refl; most = omega (arith, risen, fallen, s.requires.0, s.requires.1); }
+    let fallen = c.wide-fallen.ensures in
+    record {value = rw (fallen, risen) refl; most = omega (arith, risen, fallen, s.requires.0, s.requires.1); }

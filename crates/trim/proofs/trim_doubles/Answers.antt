@@ -13,8 +13,10 @@ pub returns-then-asked-ne0 : goal.returns-then-asked-ne0
 unfolding answer_of
 returns-then-asked-ne0 c =
     let s = c in
-    let a = c.ask_double-asked in let it = refused_call 52 11 s.args.method s.args.setting s.args.mark s.args.readings.now a.result.refusal c.if-asked-ne0.true
-    (a.ensures.refusal ∙ ap (λ (z : ℤ). refusal_of 52 11 s.args.method z) (to_z-of_z s.ranges.setting)) in record { answer = it.0; content = it.1; }
+    let a = c.ask_double-asked in
+    let it = refused_call 52 11 s.args.method s.args.setting s.args.mark s.args.readings.now a.result.refusal c.if-asked-ne0.true
+    (a.ensures.refusal ∙ ap (λ (z : ℤ). refusal_of 52 11 s.args.method z) (to_z-of_z s.ranges.setting)) in
+    record { answer = it.0; content = it.1; }
 
 pub method_doubles-sums-requires : goal.method_doubles-sums-requires
 method_doubles-sums-requires c =
@@ -46,4 +48,5 @@ returns c =
     accepted_call 52 11 s.args.method s.args.setting s.args.mark a.result.refusal a.result.number
     (a.ensures.refusal ∙ ap (λ (z : ℤ). refusal_of 52 11 s.args.method z) (to_z-of_z s.ranges.setting)) none
     (a.ensures.number ∙ ap (λ (z : ℤ). asked_number 52 11 s.args.method z) (to_z-of_z s.ranges.setting))
-    s.args.readings.now (totals_of m.result) m.ensures.sums m.new.readings m.ensures.content in record {answer = c.counted.ensures ∙ call.0; content = call.1; }
+    s.args.readings.now (totals_of m.result) m.ensures.sums m.new.readings m.ensures.content in
+    record {answer = c.counted.ensures ∙ call.0; content = call.1; }

@@ -27,7 +27,7 @@ returns-then-not-known c =
     let l = v in
     let s = l in let it = refused_codes s.args.mark s.args.length s.args.widths.now s.args.codes.now s.args.references.now s.args.exponents.now s.args.readings.now
     l.shared_slice_known-3-1.given _ _ l.ask_layers-layers.ensures v.ask_values-no.ensures v.if-no-ne0.false
-    (sym c.all_known-known.ensures ∙ not-true _ c.if-not-known.true) in record { answer = it.0; content = it.1; }
+    (sym c.all_known-known.ensures ∙ c.if-not-known.true) in record { answer = it.0; content = it.1; }
 
 pub unpack_layers-requires : goal.unpack_layers-requires
 unpack_layers-requires c =
@@ -47,4 +47,4 @@ returns c =
     let r =
     accepted_call s.args.mark s.args.length s.args.widths.now s.args.codes.now s.args.references.now s.args.exponents.now s.args.readings.now
     l.shared_slice_known-3-1.given _ _ l.ask_layers-layers.ensures v.ask_values-no.ensures v.if-no-ne0.false
-    (sym k.all_known-known.ensures ∙ not-false _ k.if-not-known.false) in record {answer = r.0; content = c.unpack_layers.ensures ∙ r.1; }
+    (sym k.all_known-known.ensures ∙ k.if-not-known.false) in record {answer = r.0; content = c.unpack_layers.ensures ∙ r.1; }

@@ -14,16 +14,11 @@ use Rattle.decoding.specs.Floats.{finite_float, two_to}
 use Rattle.unpacking.proofs.Turns.{Singles, Turn, Below, start, as_many, fits_in, exponent_there, width_there, exponent_step, width_few, reference_finite, turn, finish}
 use Rattle.unpacking.proofs.unpack_layers.Goals as goal
 
--- one more layer is there
-room : (c : goal.In-loop-i)
-    → c.loop-i.from + c.args.run ≤ length c.args.codes.now
-room c = fits_in _ _ _ _ _ _ _ _ _ _ c.loop-i.invariant (omega arith)
-
 pub loop-i-init : goal.loop-i-init
 loop-i-init c = start _ _ _ _ _ _ _ _ refl c.requires
 
 pub overflow_add-to : goal.overflow_add-to
-overflow_add-to c = omega (arith, room c)
+overflow_add-to c = omega (arith, fits_in _ _ _ _ _ _ _ _ _ _ c.loop-i.invariant (omega arith))
 
 pub offset_bounds-exponents-i : goal.offset_bounds-exponents-i
 offset_bounds-exponents-i c = omega (arith, exponent_there _ _ _ _ _ _ _ _ _ _ c.loop-i.invariant (omega arith))
@@ -33,10 +28,9 @@ bounds-exponents-i c = exponent_there _ _ _ _ _ _ _ _ _ _ c.loop-i.invariant (om
 
 pub step_of-step-requires : goal.step_of-step-requires
 step_of-step-requires c =
-    let at = c in
-    let z = get_or at.args.exponents.now at.loop-i.i (pos 0) in
+    let z = get_or c.args.exponents.now c.loop-i.i (pos 0) in
     let fit : SFits w32 z = search rules in
-    ap exponent_in_range (to_z-of_z fit) ∙ exponent_step _ _ _ _ _ _ _ _ _ _ at.loop-i.invariant (omega arith)
+    ap exponent_in_range (to_z-of_z fit) ∙ exponent_step _ _ _ _ _ _ _ _ _ _ c.loop-i.invariant (omega arith)
 
 pub offset_bounds-widths-i : goal.offset_bounds-widths-i
 offset_bounds-widths-i c = omega (arith, width_there _ _ _ _ _ _ _ _ _ _ c.loop-i.invariant (omega arith))
@@ -48,32 +42,27 @@ pub missing_of-missing-requires : goal.missing_of-missing-requires
 missing_of-missing-requires c = width_few _ _ _ _ _ _ _ _ _ _ c.loop-i.invariant (omega arith)
 
 pub slice_bounds-part-end : goal.slice_bounds-part-end
-slice_bounds-part-end c = room c.before.before.before.before.before.before
+slice_bounds-part-end c = fits_in _ _ _ _ _ _ _ _ _ _ c.loop-i.invariant (omega arith)
 
 pub slice_bounds-unpack_layer-end : goal.slice_bounds-unpack_layer-end
 slice_bounds-unpack_layer-end c =
-    let at = c.before.before.before.before.before.before.before in
-    omega (arith, room at, as_many _ _ _ _ _ _ _ _ _ _ at.loop-i.invariant)
+    let inv = c.loop-i.invariant in
+    omega (arith, fits_in _ _ _ _ _ _ _ _ _ _ inv (omega arith), as_many _ _ _ _ _ _ _ _ _ _ inv)
 
 pub unpack_layer-requires : goal.unpack_layer-requires
 unpack_layer-requires c =
-    let at = c.before.before.before.before.before.before.before.before in
-    let inv = at.loop-i.invariant in (
-      record { reference = reference_finite _ _ _ _ _ _ _ _ _ _ inv (omega arith); step = ap finite_float c.step_of_lem.ensures },
-      simp (length-take, length-drop) (omega (arith, room at, as_many _ _ _ _ _ _ _ _ _ _ inv)),
+    let inv = c.loop-i.invariant in (
+      record { reference = reference_finite _ _ _ _ _ _ _ _ _ _ inv (omega arith); step = ap finite_float c.step_of-step.ensures },
+      simp (length-take, length-drop) (omega (arith, fits_in _ _ _ _ _ _ _ _ _ _ inv (omega arith), as_many _ _ _ _ _ _ _ _ _ _ inv)),
     )
 
 pub loop-i-preserved : goal.loop-i-preserved
 loop-i-preserved c =
-    let at = c in
-    let s = at in
-    let z = get_or s.args.exponents.now at.loop-i.i (pos 0) in
-    let fit : SFits w32 z = search rules in
-    let single : Singles s.args.references.now = at.shared_slice_known-3-1.given in
-    let small : Below 65536 s.args.codes.now = λ k. (at.shared_slice_known-2-1.given k).fits in
-    let m = c in
-    turn _ _ _ _ _ _ _ _ _ _ at.loop-i.invariant (omega arith) small _ (single _) refl (m.step_of_lem.ensures ∙ ap two_to (to_z-of_z fit)) (ap (λ (n : ℕ). of_int binary64 (pos n)) m.missing_of-missing.ensures) _
-    c.unpack_layer.ensures
+    let fit : SFits w32 (get_or c.args.exponents.now c.loop-i.i (pos 0)) = search rules in
+    let single : Singles c.args.references.now = λ k. search rules in
+    let small : Below 65536 c.args.codes.now = λ k. search rules in
+    turn _ _ _ _ _ _ _ _ _ _ c.loop-i.invariant (omega arith) small _ (single _) refl (c.step_of-step.ensures ∙ ap two_to (to_z-of_z fit))
+    (ap (λ (n : ℕ). of_int binary64 (pos n)) c.missing_of-missing.ensures) _ c.unpack_layer.ensures
 
 pub shape_of-readings : goal.shape_of-readings
 shape_of-readings c = c.loop-i.invariant.as_long
