@@ -1,4 +1,3 @@
-use borrow.Author.Rules.{rules}
 use Rattle.form.specs.Form.{bytes}
 use Rattle.listing.proofs.Pieces.{heading_room, counts_room, output_laid}
 use Rattle.listing.proofs.put_output.Goals as goal

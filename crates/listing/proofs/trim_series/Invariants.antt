@@ -1,11 +1,5 @@
-use native.Mathlib.Omega.{arith}
-use borrow.Author.Rules.{rules}
-use mir.Facts.{to_z-of_z}
-use mir.Val.{to_z}
-use mir.Syntax.{w32}
-use Prim.Native.Nat.{◌+◌, ◌-◌, ◌*◌}
-use Rattle.text_out.proofs.LaidLaws.{laid_long}
-use Rattle.listing.proofs.Series.{SeriesTurn, series_start, series_room, answer_room, part_small, part_turn, series_done}
+use Prim.Native.Nat.{◌-◌}
+use Rattle.listing.proofs.Series.{SeriesTurn}
 use Rattle.listing.proofs.trim_series.Given as goal
 
 abbrev pub invariant-loop-j : goal.invariant-loop-j
