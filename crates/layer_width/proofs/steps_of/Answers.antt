@@ -7,7 +7,6 @@ use lib.Pow.{pow_mono}
 use Rattle.meaning.specs.Layers.{last_code}
 use Rattle.layer_width.proofs.steps_of.Goals as goal
 
--- `steps_of` meets its contract: the power fits its word.
 -- the power as the code shifts it
 power : (c : goal.Start) → 1 * 2 ^ c.args.width % 2 ^ 64 ≡ 1 * 2 ^ c.args.width
 power c = mod-eq_of_lt (omega (arith, pow_mono {i = c.args.width} {j = 16} c.requires.width_bound))
