@@ -12,11 +12,11 @@ returns c =
     let r = rw l.content at p.references in
     let e = rw l.content at p.exponents in
     record {
-      readings = l.content;
-      answer = a;
-      codes = k;
-      references = r;
-      exponents = e;
+      readings = search rules;
+      answer = search rules;
+      codes = search rules;
+      references = search rules;
+      exponents = search rules;
       promised = l.promised;
       claim = pack_promised _ _ _ _ l.content a k r e;
     }
