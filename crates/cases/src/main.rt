@@ -18,7 +18,11 @@ mod trims;
 use sheet_rows::{rows, too_long};
 use std::env::FillError;
 use std::io::Read;
+use std::process::ExitCode;
 use std::rt::Env;
+
+// The status by which a program ends that nobody reads any more: a shell's number for one that a signal ended.
+const NO_READER: u8 = 141;
 
 // Was the program given an argument?
 fn has_argument(rt: &impl Env) -> bool {
@@ -47,22 +51,25 @@ fn read_full(input: &mut impl Read, text: &mut [u8]) -> usize
     bytes
 }
 
-fn run(rt: &(impl Input + Print)) {
+// Runs the sheet. Is there a reader for the table?
+fn run(rt: &(impl Input + Print)) -> bool {
     let mut input = rt.reader();
     let mut text = [0u8; 65536];
     let n = read_full(&mut input, &mut text);
     let mut more = [0u8; 1];
     if n == 65536 && read_full(&mut input, &mut more) > 0 {
-        too_long(rt);
-        return;
+        return too_long(rt);
     }
-    rows(rt, &text[..n]);
+    rows(rt, &text[..n])
 }
 
-fn main(rt: HostRuntime) {
+fn main(rt: HostRuntime) -> ExitCode {
     if has_argument(&rt) {
         about(&rt);
-        return;
+        return ExitCode::SUCCESS;
     }
-    run(&rt);
+    if run(&rt) {
+        return ExitCode::SUCCESS;
+    }
+    ExitCode::from(NO_READER)
 }

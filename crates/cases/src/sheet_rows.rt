@@ -6,6 +6,7 @@ use crate::limits::{exceeds, outside};
 use crate::sums::number;
 use crate::texts::file;
 use crate::trims::{array, asked, asked_double, double, loader, one_single, paper, twice};
+use std::io::ErrorKind;
 use table::fields::{initial, piece};
 use table::line::{end, put_number, put_text};
 
@@ -57,38 +58,41 @@ fn one_line(out: &impl Print, line: &[u8]) -> Count {
     Count { cases: 1, wrong: 1 }
 }
 
-fn put_total(out: &impl Print, cases: u64, wrong: u64) {
+// Is there a reader for it?
+fn put_total(out: &impl Print, cases: u64, wrong: u64) -> bool {
     let at = put_number(out, put_text(out, 0, b"\n"), cases);
-    let at = put_number(out, put_text(out, at, b" cases, "), wrong);
-    put_text(out, at, b" wrong\n");
+    put_number(out, put_text(out, at, b" cases, "), wrong);
+    match out.write_all(b" wrong\n") {
+        Err(error) => error.kind() != ErrorKind::BrokenPipe,
+        Ok(()) => true,
+    }
 }
 
 // The last line. A sheet without a case is a slip of whoever wrote it, or can't be read: it counts as a case that is wrong.
-fn total(out: &impl Print, cases: u64, wrong: u64) {
+fn total(out: &impl Print, cases: u64, wrong: u64) -> bool {
     if cases == 0 {
         put_text(
             out,
             0,
             b"WRONG, the sheet has no case, or can't be read: cases <sheet\n",
         );
-        put_total(out, 1, 1);
-        return;
+        return put_total(out, 1, 1);
     }
-    put_total(out, cases, wrong);
+    put_total(out, cases, wrong)
 }
 
 // What is said of a sheet that is longer than the room for it. Its rows aren't run: the last one might be cut.
-pub fn too_long(out: &impl Print) {
+pub fn too_long(out: &impl Print) -> bool {
     put_text(
         out,
         0,
         b"WRONG, the sheet is longer than 65536 bytes, and no row of it was run: make it two sheets\n",
     );
-    total(out, 1, 1);
+    total(out, 1, 1)
 }
 
 // The whole table: every line, and at the end how many cases there are and how many are wrong.
-pub fn rows(out: &impl Print, s: &[u8]) {
+pub fn rows(out: &impl Print, s: &[u8]) -> bool {
     let mut cases: u64 = 0;
     let mut wrong: u64 = 0;
     let mut at: usize = 0;
@@ -101,5 +105,5 @@ pub fn rows(out: &impl Print, s: &[u8]) {
         cases = cases.wrapping_add(more.cases);
         wrong = wrong.wrapping_add(more.wrong);
     }
-    total(out, cases, wrong);
+    total(out, cases, wrong)
 }

@@ -92,18 +92,18 @@ fn fail<R: Eprint + AllocGlobal>(rt: &R, what: &str, error: io::Error) {
 // What a shell shows of a program that writes to a pipe whose reader has gone, and is ended for it.
 const NO_READER: u8 = 141;
 
-// Writes the answer; how the program is to end.
-fn write_answer<R: Print + Eprint + AllocGlobal>(rt: &R, answer: &[u8]) -> ExitCode {
+// Writes the answer. Is there a reader for it? Whatever else fails is told on standard error.
+fn write_answer<R: Print + Eprint + AllocGlobal>(rt: &R, answer: &[u8]) -> bool {
     match rt.write_all(answer) {
-        Ok(()) => ExitCode::SUCCESS,
-        Err(error) if error.kind() == ErrorKind::BrokenPipe => ExitCode::from(NO_READER),
+        Ok(()) => true,
+        Err(error) if error.kind() == ErrorKind::BrokenPipe => false,
         Err(error) => {
             fail(
                 rt,
                 "trimlist: the answer could not be written to standard output",
                 error,
             );
-            ExitCode::SUCCESS
+            true
         }
     }
 }
@@ -121,11 +121,13 @@ fn number_of(digit: u8) -> u32 {
 fn answer<R: Print + Eprint + AllocGlobal>(rt: &R, text: &[u8]) -> ExitCode {
     let mut out = [0u8; 65536];
     let n = listing::listing(text, &mut out);
-    let end = write_answer(rt, &out[..n]);
+    if !write_answer(rt, &out[..n]) {
+        return ExitCode::from(NO_READER);
+    }
     if n == 10 {
         text_reason::say(rt, text, number_of(out[8]));
     }
-    end
+    ExitCode::SUCCESS
 }
 
 // The longest text that has the form has 37,052 bytes: 20 of the header, 32 of the job, 136 of the names and 512 lines of 72. Once 37,053 bytes
@@ -139,7 +141,10 @@ fn run<R: io::Input + Print + Eprint + AllocGlobal>(rt: &R) -> ExitCode {
             "trimlist: standard input could not be read to its end",
             error,
         );
-        return write_answer(rt, b"refused,9\n");
+        if write_answer(rt, b"refused,9\n") {
+            return ExitCode::SUCCESS;
+        }
+        return ExitCode::from(NO_READER);
     }
     let n = input.bytes;
     answer(rt, &text[..n])
