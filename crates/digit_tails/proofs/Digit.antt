@@ -2,7 +2,7 @@
 -- And from bounds to the decade and to the step: a number that lies between two neighbouring powers has just one exponent.
 use mathlib.Core.Path.{◌≡◌, refl, sym, ap, ◌∙◌}
 use mathlib.Core.Logic.{◌⊎◌, inl, inr}
-use Prim.Native.Nat.{ℕ, suc, ◌+◌, ◌-◌, ◌*◌, ◌/◌, ◌^◌, ◌≤◌, ◌<◌}
+use Prim.Native.Nat.{ℕ, suc, ◌+◌, ◌*◌, ◌/◌, ◌^◌, ◌≤◌, ◌<◌}
 use native.Mathlib.Nat.{le-div_iff_mul-le, div-lt_iff_lt-mul, div-eq_of_lt, div-eq_of_lt-le, div-eq_of_eq-mul_left, mul-le-mul_right, mul-le-mul, mul-lt-mul_of_pos_right, lt_of_mul-lt-mul_right, pow-suc, pow-le-pow_right, le_trans, lt_of_le_of_lt, le_antisymm, not-le_of_lt}
 use native.Mathlib.Numerals.{sub-one}
 use native.Mathlib.Decide.{dec_le}

@@ -72,10 +72,9 @@ slice_bounds-read_double_block-end c = omega (arith, c.at_most.ensures)
 pub read_double_block-requires : goal.read_double_block-requires
 read_double_block-requires c =
     let at = c.loop-a in
-    let s = c in
     let k = c.at_most in
     let l = length-take (at.a + k.result - at.a) (drop at.a at.readings) in
-    (((omega (arith, l, k.ensures, front_long c.loop-a.low 512 (omega (arith, c.loop-a.invariant.1.0))), omega (arith, l, k.ensures, front_long c.loop-a.high 512 (omega (arith, c.loop-a.invariant.1.1)))), (omega (arith, l, k.ensures, front_long c.loop-a.lows 512 (omega (arith, c.loop-a.invariant.1.2))), omega (arith, l, k.ensures, front_long c.loop-a.highs 512 (omega (arith, c.loop-a.invariant.1.3))))), omega (arith, l, k.ensures, at.invariant.0.long, s.requires))
+    (((omega (arith, l, k.ensures, front_long c.loop-a.low 512 (omega (arith, c.loop-a.invariant.1.0))), omega (arith, l, k.ensures, front_long c.loop-a.high 512 (omega (arith, c.loop-a.invariant.1.1)))), (omega (arith, l, k.ensures, front_long c.loop-a.lows 512 (omega (arith, c.loop-a.invariant.1.2))), omega (arith, l, k.ensures, front_long c.loop-a.highs 512 (omega (arith, c.loop-a.invariant.1.3))))), omega (arith, l, k.ensures, at.invariant.0.long, c.requires))
 
 pub loop-a-smaller : goal.loop-a-smaller
 loop-a-smaller c = omega (arith, c.at_most.ensures, c.loop-a.invariant.0.long)
@@ -83,9 +82,8 @@ loop-a-smaller c = omega (arith, c.at_most.ensures, c.loop-a.invariant.0.long)
 pub loop-a-preserved : goal.loop-a-preserved
 loop-a-preserved c =
     let at = c.loop-a in
-    let s = c in
     let k = c.at_most in (
-      reading_turn at.invariant.0 s.requires (at.a + k.result - at.a) (at.a + k.result) (omega arith) (omega (arith, k.ensures, at.invariant.0.long)) c.read_double_block.ensures,
+      reading_turn at.invariant.0 c.requires (at.a + k.result - at.a) (at.a + k.result) (omega arith) (omega (arith, k.ensures, at.invariant.0.long)) c.read_double_block.ensures,
       (simp (length-append, length-take, length-drop) (omega (arith, c.loop-a.invariant.1.0)), simp (length-append, length-take, length-drop) (omega (arith, c.loop-a.invariant.1.1)), simp (length-append, length-take, length-drop) (omega (arith, c.loop-a.invariant.1.2)), simp (length-append, length-take, length-drop) (omega (arith, c.loop-a.invariant.1.3))),
     )
 

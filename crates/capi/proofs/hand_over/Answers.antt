@@ -11,11 +11,17 @@ unfolding answer_of number_for_c counts_for_c
 returns-in-Counts c =
     let before = c.args.counts.now in
     let is = sym c.in-Counts.is in
-    record {number = ap (λ (a : Answer). number_for_c (answer_of a)) is; counted = ap (λ (a : Answer). counts_for_c (answer_of a) before) is; }
+    record {
+      number = ap (λ (a : Answer). number_for_c (answer_of a)) is;
+      counted = ap (λ (a : Answer). counts_for_c (answer_of a) before) is;
+    }
 
 pub returns-in-Refused : goal.returns-in-Refused
 unfolding answer_of number_for_c counts_for_c
 returns-in-Refused c =
     let before = c.args.counts.now in
     let is = sym c.in-Refused.is in
-    record {number = ap (λ (a : Answer). number_for_c (answer_of a)) is; counted = ap (λ (a : Answer). counts_for_c (answer_of a) before) is; }
+    record {
+      number = ap (λ (a : Answer). number_for_c (answer_of a)) is;
+      counted = ap (λ (a : Answer). counts_for_c (answer_of a) before) is;
+    }

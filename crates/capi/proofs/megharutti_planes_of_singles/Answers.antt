@@ -6,4 +6,7 @@ use Rattle.capi.proofs.megharutti_planes_of_singles.Goals as goal
 
 pub returns : goal.returns
 returns c =
-    record {answer = c.converted_number.ensures ∙ ap number_for_c c.planes_of_singles-answer.ensures.answer; content = c.planes_of_singles-answer.ensures.content; }
+    record {
+      answer = c.converted_number.ensures ∙ ap number_for_c c.planes_of_singles-answer.ensures.answer;
+      content = c.planes_of_singles-answer.ensures.content;
+    }

@@ -1,9 +1,7 @@
-use mathlib.Core.Path.{◌≡◌, refl, ◌∙◌}
+use mathlib.Core.Path.{◌≡◌}
 use Prim.Native.Nat.{ℕ, ◌-◌, ◌/◌, ◌%◌, ◌^◌, ◌≤◌, ◌<◌}
-use native.Mathlib.Omega.{arith}
-use lib.ListN.{length, get_or, length-set}
+use lib.ListN.{length, get_or}
 use Rattle.digit_tables.specs.Fields.{field_tail}
-use Rattle.digit_tables.proofs.Fields.{filled}
 use Rattle.digit_tables.proofs.masks.Given as goal
 
 -- Each entry that is passed is its mask.

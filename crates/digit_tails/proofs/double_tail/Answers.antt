@@ -1,5 +1,4 @@
 -- The law of the tail, with the decade's place, the step's exponent and the spacing's exponent that the callees ensure.
-use native.Mathlib.Omega.{arith}
 use native.Mathlib.Nat.{sub-add_cancel}
 use Rattle.digit_tails.proofs.Widths.{double_none, double_some}
 use Rattle.digit_tails.proofs.double_tail.Goals as goal

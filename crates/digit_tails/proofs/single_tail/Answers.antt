@@ -1,5 +1,4 @@
 -- The law of the tail, as for doubles, with the decade of the double of the same size.
-use native.Mathlib.Omega.{arith}
 use native.Mathlib.Nat.{sub-add_cancel}
 use Rattle.digit_tails.proofs.Widths.{single_none, single_some}
 use Rattle.digit_tails.proofs.single_tail.Goals as goal

@@ -1,8 +1,7 @@
 -- The table's test at the place i.
-use native.Mathlib.Omega.{arith}
 use mathlib.Core.Path.{refl}
 use Rattle.digit_tails.proofs.Decades.{step_at}
 use Rattle.digit_tails.proofs.step_exponent.Goals as goal
 
 pub returns : goal.returns
-returns c = record {is = refl; power = step_at c.args.i c.requires; }
+returns c = record { is = refl; power = step_at c.args.i c.requires }

@@ -1,10 +1,6 @@
-use native.Mathlib.Omega.{arith}
-use Prim.Native.Nat.{ℕ, zero, suc, ◌+◌, ◌-◌, ◌≤◌, ◌<◌}
-use mathlib.Core.List.{List}
-use mathlib.Core.Path.{◌≡◌, subst}
+use Prim.Native.Nat.{◌+◌, ◌≤◌, ◌<◌}
 use lib.ListN.{get_or}
 use Rattle.powers.specs.Table.{powers}
-use Rattle.digit_tails.proofs.Decades.{place_decade}
 use Rattle.digit_tails.proofs.subnormal_place.Given as goal
 
 -- The power after the place stays above m. The first entry is 1, so the walk down ends before the front.

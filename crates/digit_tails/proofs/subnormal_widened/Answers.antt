@@ -1,6 +1,6 @@
 -- The size stays as x is doubled and f falls by one.
 use native.Mathlib.Omega.{arith}
-use Rattle.digit_tails.proofs.Singles.{Doubled, start, room, turn, finish}
+use Rattle.digit_tails.proofs.Singles.{start, room, turn, finish}
 use Rattle.digit_tails.proofs.subnormal_widened.Goals as goal
 
 pub loop-x-init : goal.loop-x-init

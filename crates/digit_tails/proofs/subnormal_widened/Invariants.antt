@@ -1,5 +1,4 @@
-use native.Mathlib.Omega.{arith}
-use Rattle.digit_tails.proofs.Singles.{Doubled, start, room, turn, finish}
+use Rattle.digit_tails.proofs.Singles.{Doubled}
 use Rattle.digit_tails.proofs.subnormal_widened.Given as goal
 
 -- The size stays as x is doubled and f falls by one.

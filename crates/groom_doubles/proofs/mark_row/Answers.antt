@@ -19,5 +19,4 @@ pub loop-i-preserved : goal.loop-i-preserved
 loop-i-preserved c = mark_next c.loop-i.invariant (omega arith) (omega arith) c.turn_double.ensures
 
 pub returns : goal.returns
-returns c =
-    record {long = c.loop-i.invariant.long ∙ c.requires.1; content = mark_end c.loop-i.invariant (omega arith); }
+returns c = record {long = c.loop-i.invariant.long ∙ c.requires.1; content = mark_end c.loop-i.invariant (omega arith); }

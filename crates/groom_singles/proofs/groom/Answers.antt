@@ -53,4 +53,4 @@ pub returns : goal.returns
 returns c =
     let at = c.loop-a in
     let done = end at.invariant.0 (omega arith) in
-    record {sums = done.0; add = end_state at.invariant.0 (omega arith); content = done.1; }
+    record { sums = done.0; add = end_state at.invariant.0 (omega arith); content = done.1 }

@@ -27,12 +27,11 @@ columns : (c : After-groom_row-row)
     let row = take (at.a + n - at.a) (drop at.a at.block) in
     (k : ℕ) → k ≤ length row → fill_at s.turns.now bit want s.tail.ones k ≡ state_at (filling_after 23 8 s.tail.ones s.mark) at.add row k
 columns c =
-    let s = c in
     let at = c.loop-a in
     let n = c.at_most-n in
     let k = at.a + n.result - at.a in
-    let ws = s.args.block.now in
-    filled 23 8 s.args.mark ws s.args.turns.now s.requires.2 s.args.tail.ones at.add at.invariant.1 at.r c.row_bit-bit.ensures c.choose_single-want.ensures
+    let ws = c.args.block.now in
+    filled 23 8 c.args.mark ws c.args.turns.now c.requires.2 c.args.tail.ones at.add at.invariant.1 at.r c.row_bit-bit.ensures c.choose_single-want.ensures
     (ap (take k) at.invariant.3 ∙ row_is ws at.a at.r k at.invariant.2 (omega (arith, at.invariant.0.same)) (omega (arith, n.ensures, at.invariant.0.same)))
 
 -- and so the row is walked as the whole is
@@ -119,4 +118,4 @@ pub returns : goal.returns
 returns c =
     let at = c.loop-a in
     let done = end at.invariant.0 (omega arith) in
-    record {sums = done.0; add = end_state at.invariant.0 (omega arith); content = done.1; }
+    record { sums = done.0; add = end_state at.invariant.0 (omega arith); content = done.1 }

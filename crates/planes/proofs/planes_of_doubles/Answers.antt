@@ -14,7 +14,7 @@ unfolding answer_of
 returns-then-not-planes_fit c =
     let s = c.args in
     let it = to_refused 8 s.readings.now s.planes.now (sym c.planes_fit.ensures ∙ c.if-not-planes_fit.true) in
-    record { answer = it.0; content = it.1; }
+    record { answer = it.0; content = it.1 }
 
 pub write_doubles-requires : goal.write_doubles-requires
 write_doubles-requires c =
@@ -27,4 +27,4 @@ unfolding answer_of
 returns c =
     let s = c.args in
     let it = to_done 8 s.readings.now s.planes.now (sym c.planes_fit.ensures ∙ c.if-not-planes_fit.false) c.write_doubles.ensures in
-    record { answer = it.0; content = it.1; }
+    record { answer = it.0; content = it.1 }

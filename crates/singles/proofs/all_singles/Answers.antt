@@ -47,4 +47,4 @@ loop-a-preserved c =
 
 pub returns : goal.returns
 returns c = let it = end c.loop-a.invariant (omega arith) in
-    record { sums = it.0; content = it.1; }
+    record { sums = it.0; content = it.1 }

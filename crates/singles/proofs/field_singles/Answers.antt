@@ -32,4 +32,4 @@ loop-i-preserved c =
 
 pub returns : goal.returns
 returns c = let it = end c.loop-i.invariant.0 (omega arith) in
-    record { sums = it.0; content = it.1; }
+    record { sums = it.0; content = it.1 }

@@ -26,4 +26,4 @@ loop-i-preserved c = step c.loop-i.invariant (omega arith) c.fine_single-one.ens
 
 pub returns : goal.returns
 returns c = let it = end c.loop-i.invariant (omega arith) in
-    record { sums = it.0; content = it.1; }
+    record { sums = it.0; content = it.1 }
