@@ -1,5 +1,4 @@
 -- Both halves, joined.
-use borrow.Author.Rules.{rules}
 use mathlib.Core.Path.{◌∙◌}
 use lib.ListN.{length}
 use Rattle.array_planes.proofs.Places.{fetched_block}

@@ -1,11 +1,10 @@
 -- Block after block.
-use borrow.Author.Rules.{rules}
-use mathlib.Core.Path.{◌≡◌, refl}
+use mathlib.Core.Path.{refl}
 use Prim.Native.Nat.{ℕ, ◌+◌, ◌-◌}
 use native.Mathlib.Omega.{arith}
-use lib.ListN.{length, drop, length-append, length-take, length-drop, length-replicate}
+use lib.ListN.{drop, length-append, length-take, length-drop, length-replicate}
 use Rattle.array_planes.proofs.Places.{front_long}
-use Rattle.array_planes.proofs.Blocks.{Reading, reading_begin, reading_turn, reading_end}
+use Rattle.array_planes.proofs.Blocks.{reading_begin, reading_turn, reading_end}
 use Rattle.array_planes.proofs.read_singles.Goals as goal
 
 pub loop-a-init : goal.loop-a-init

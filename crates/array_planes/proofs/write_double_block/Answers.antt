@@ -1,5 +1,4 @@
 -- The low halves, and then the high ones.
-use borrow.Author.Rules.{rules}
 use mathlib.Core.Path.{refl}
 use lib.ListN.{length}
 use Rattle.array_planes.proofs.Places.{stored_block}

@@ -1,11 +1,9 @@
 -- Block after block.
-use borrow.Author.Rules.{rules}
-use mathlib.Core.Path.{◌≡◌}
 use Prim.Native.Nat.{ℕ, ◌+◌, ◌-◌}
 use native.Mathlib.Omega.{arith}
-use lib.ListN.{length, drop, length-append, length-take, length-drop, length-replicate}
+use lib.ListN.{drop, length-append, length-take, length-drop, length-replicate}
 use Rattle.array_planes.proofs.Places.{front_long}
-use Rattle.array_planes.proofs.Blocks.{Writing, writing_begin, writing_turn, writing_end}
+use Rattle.array_planes.proofs.Blocks.{writing_begin, writing_turn, writing_end}
 use Rattle.array_planes.proofs.write_doubles.Goals as goal
 
 pub loop-a-init : goal.loop-a-init

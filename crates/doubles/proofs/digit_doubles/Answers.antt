@@ -22,5 +22,6 @@ pub loop-i-preserved : goal.loop-i-preserved
 loop-i-preserved c = step c.loop-i.invariant (omega arith) c.digit_double-one.ensures c.plus-sums.ensures refl
 
 pub returns : goal.returns
-returns c = let it = end c.loop-i.invariant (omega arith) in
+returns c =
+    let it = end c.loop-i.invariant (omega arith) in
     record { sums = it.0; content = it.1 }

@@ -1,11 +1,11 @@
 -- Column by column; the state after the last is written down behind it.
 use mathlib.Core.Path.{◌≡◌, ◌∙◌, subst}
-use Prim.Native.Nat.{ℕ, ◌-◌, ◌≤◌, zero-le}
+use Prim.Native.Nat.{ℕ, zero-le}
 use native.Mathlib.Omega.{arith}
 use lib.Bits.{bit_xor}
 use lib.ListN.{get_or, set, length-set}
 use Rattle.loops.specs.Walk.{state_at}
-use Rattle.rows.proofs.Rows.{Counting, count_begin, count_done, count_next}
+use Rattle.rows.proofs.Rows.{count_begin, count_done, count_next}
 use Rattle.groom_doubles.proofs.count_turns.Goals as goal
 
 pub loop-i-init : goal.loop-i-init

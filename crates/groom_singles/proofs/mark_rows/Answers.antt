@@ -1,12 +1,12 @@
 -- Row by row, each with a bit of its own.
-use mathlib.Core.Path.{◌≡◌, ap₂, ◌∙◌}
+use mathlib.Core.Path.{ap₂, ◌∙◌}
 use mathlib.Core.List.{List}
-use Prim.Native.Nat.{ℕ, min, ◌+◌, ◌-◌, ◌*◌}
+use Prim.Native.Nat.{ℕ, ◌+◌, ◌-◌}
 use native.Mathlib.Omega.{arith}
 use lib.Bits.{bit_xor}
-use lib.ListN.{length, drop, get_or, length-take}
+use lib.ListN.{drop, get_or, length-take}
 use Rattle.reading.specs.Left.{takes}
-use Rattle.rows.proofs.Rows.{row_is, Marked, rows_begin, rows_next, rows_end}
+use Rattle.rows.proofs.Rows.{row_is, rows_begin, rows_next, rows_end}
 use Rattle.groom_singles.proofs.mark_rows.Goals as goal
 
 pub loop-a-init : goal.loop-a-init

@@ -15,4 +15,8 @@ power-requires c = omega (arith, c.smaller.ensures)
 pub returns : goal.returns
 returns c =
     let p = c.power.ensures in
-    let d = c.smaller.ensures in record { value = p ∙ ap (λ (n : ℕ). 2 ^ n) d ∙ sym (cut_wide _ _ _ c.if-q-exponent.false); small = omega (arith, p, pow_mono {i = c.smaller.result} {j = 55} (omega (arith, d))) }
+    let d = c.smaller.ensures in
+    record {
+      value = p ∙ ap (λ (n : ℕ). 2 ^ n) d ∙ sym (cut_wide _ _ _ c.if-q-exponent.false);
+      small = omega (arith, p, pow_mono {i = c.smaller.result} {j = 55} (omega (arith, d)));
+    }

@@ -2,7 +2,6 @@
 use mathlib.Core.Path.{sym}
 use Prim.Native.Nat.{ℕ, ◌<◌}
 use native.Mathlib.Omega.{arith}
-use borrow.Author.Rules.{rules}
 use Rattle.meaning.specs.Readings.{infinity}
 use Rattle.reading_pair.specs.Limit.{limit_for}
 use Rattle.reading_pair.proofs.Limit.{limit_small, limit_finite}

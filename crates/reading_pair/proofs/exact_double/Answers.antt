@@ -1,7 +1,6 @@
 -- Both present and finite, then the words.
 use mathlib.Core.Path.{refl}
 use native.Mathlib.Omega.{arith}
-use borrow.Author.Rules.{rules}
 use Rattle.meaning.specs.Readings.{sign}
 use Rattle.reading_pair.proofs.Pairs.{first_left_out, second_left_out, both_in}
 use Rattle.reading_pair.proofs.exact_double.Goals as goal

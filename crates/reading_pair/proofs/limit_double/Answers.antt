@@ -1,6 +1,5 @@
 -- A shift that loses nothing.
 use native.Mathlib.Omega.{arith}
-use borrow.Author.Rules.{rules}
 use Rattle.reading_pair.specs.Limit.{limit_for}
 use Rattle.reading_pair.proofs.limit_double.Goals as goal
 

@@ -2,7 +2,6 @@
 use mathlib.Core.Path.{◌≡◌}
 use native.Mathlib.Omega.{arith}
 use borrow.Author.Tests.{eqb-true}
-use borrow.Author.Rules.{rules}
 use Rattle.singles.proofs.fields_serve.Goals as goal
 
 pub returns-then-readings-lt1024 : goal.returns-then-readings-lt1024

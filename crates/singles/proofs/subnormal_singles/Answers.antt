@@ -1,8 +1,7 @@
 -- The count's law at each turn.
-use Prim.Native.Nat.{◌-◌, ◌≤◌}
 use native.Mathlib.Omega.{arith}
-use lib.ListN.{length, get_or}
-use Rattle.singles.proofs.Rest.{Found, few_subnormal, found_turn}
+use lib.ListN.{get_or}
+use Rattle.singles.proofs.Rest.{few_subnormal, found_turn}
 use Rattle.singles.proofs.subnormal_singles.Goals as goal
 
 pub loop-i-init : goal.loop-i-init
