@@ -2,7 +2,6 @@
 use mathlib.Core.Path.{◌≡◌, ap, ◌∙◌}
 use lib.IntN.{ℤ}
 use mir.Facts.{to_z-of_z}
-use borrow.Author.Rules.{rules}
 use Rattle.asking.specs.Asked.{refusal_of, asked_number}
 use Rattle.beyond.specs.Answers.{answer_of}
 use Rattle.beyond.proofs.Calls.{refused_first, none_refused, in_range, single_limit}

@@ -1,5 +1,4 @@
 -- The constants are those of the method's keep bits; a method without any has no tail.
-use borrow.Author.Rules.{rules}
 use mathlib.Core.Path.{refl, ◌∙◌}
 use native.Mathlib.Omega.{arith}
 use borrow.Author.Tests.{le-leb, lt-leb}

@@ -1,5 +1,4 @@
 -- Groomed, or by a method that doesn't look at the state.
-use borrow.Author.Rules.{rules}
 use mathlib.Core.Path.{◌∙◌}
 use Prim.Native.Nat.{◌≤◌}
 use native.Mathlib.Omega.{arith}

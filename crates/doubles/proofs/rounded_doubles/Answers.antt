@@ -1,5 +1,4 @@
 -- With no tail nothing is added.
-use borrow.Author.Rules.{rules}
 use Rattle.loops.proofs.Methods.{by_none, over_all}
 use Rattle.doubles.proofs.rounded_doubles.Goals as goal
 

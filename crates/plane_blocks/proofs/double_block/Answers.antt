@@ -1,5 +1,4 @@
 -- Read, trimmed and written back.
-use borrow.Author.Rules.{rules}
 use lib.ListN.{length}
 use Rattle.loops.specs.Methods.{settled_with, next_with}
 use Rattle.plane_blocks.proofs.Trimming.{block_done}

@@ -1,15 +1,14 @@
 -- Block after block.
-use mathlib.Core.Path.{◌≡◌, refl, sym, ◌∙◌}
+use mathlib.Core.Path.{refl, sym, ◌∙◌}
 use mathlib.Core.Logic.{inl}
-use Prim.Native.Nat.{◌+◌, ◌-◌}
+use Prim.Native.Nat.{◌+◌}
 use native.Mathlib.Omega.{arith}
-use lib.ListN.{length, length-append, length-take, length-drop}
-use Rattle.loops.specs.Tallies.{totals_of}
-use Rattle.loops.specs.Methods.{Filling, settled_with, next_with}
+use lib.ListN.{length-append, length-take, length-drop}
+use Rattle.loops.specs.Methods.{settled_with, next_with}
 use Rattle.loops.proofs.Tallies.{few_wider}
 use Rattle.array_planes.specs.Places.{fetched}
 use Rattle.array_planes.proofs.Places.{front_long}
-use Rattle.plane_blocks.proofs.Trimming.{Trimming, one_with, begin, block_room, few_block, turn, end, filling_block}
+use Rattle.plane_blocks.proofs.Trimming.{one_with, begin, block_room, few_block, turn, end, filling_block}
 use Rattle.plane_blocks.proofs.double_blocks.Goals as goal
 
 pub loop-a-init : goal.loop-a-init

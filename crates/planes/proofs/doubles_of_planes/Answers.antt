@@ -1,9 +1,8 @@
 -- Refused or done, by the laws of `Calls`.
-use borrow.Author.Rules.{rules}
 use mathlib.Core.Path.{sym, ◌∙◌}
 use Prim.Native.Nat.{◌*◌}
 use native.Mathlib.Omega.{arith}
-use borrow.Author.Tests.{eqb-true, not-true, not-false}
+use borrow.Author.Tests.{eqb-true}
 use lib.ListN.{length}
 use Rattle.planes.specs.Answers.{answer_of}
 use Rattle.planes.proofs.Calls.{from_refused, from_done}

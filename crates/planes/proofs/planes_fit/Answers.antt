@@ -1,5 +1,4 @@
 -- By the quotient.
-use borrow.Author.Rules.{rules}
 use Rattle.planes.proofs.Calls.{no_quotient, by_quotient}
 use Rattle.planes.proofs.planes_fit.Goals as goal
 

@@ -1,5 +1,4 @@
 -- At most one of the two is 1.
-use borrow.Author.Rules.{rules}
 use mathlib.Core.Path.{refl}
 use native.Mathlib.Omega.{arith}
 use Rattle.trim.proofs.gain.Goals as goal

@@ -1,5 +1,4 @@
 -- Refused or accepted, by the laws of `Calls`.
-use borrow.Author.Rules.{rules}
 use mathlib.Core.Path.{ap, ◌∙◌}
 use lib.IntN.{ℤ}
 use mir.Facts.{to_z-of_z}
