@@ -1,5 +1,5 @@
 -- The least exponent that holds a span, by a search downwards.
-use Rattle.std.proofs.Common.{◌≡◌, ℕ, zero, ◌+◌, ◌-◌, ◌*◌, ◌/◌, ◌^◌, ◌<◌, ◌≤◌, max, ◌⊎◌, sym, ap, inl, inr, zero-le, le_trans, mul-le-mul_right, mul_comm, div-lt_iff_lt-mul, mul-le-mul_left, mul-lt-mul_of_pos_right, arith, pow_pos, pow_mono, pow-add, le-leb}
+use Rattle.std.proofs.Common.{◌≡◌, ℕ, ◌+◌, ◌-◌, ◌*◌, ◌/◌, ◌^◌, ◌<◌, ◌≤◌, max, ◌⊎◌, sym, ap, inl, inr, zero-le, le_trans, mul-le-mul_right, mul_comm, div-lt_iff_lt-mul, mul-le-mul_left, mul-lt-mul_of_pos_right, arith, pow_pos, pow_mono, pow-add, le-leb}
 use native.Mathlib.Nat.{mul-sub}
 use native.Mathlib.Decide.{dec_lt, dec_le}
 use Rattle.meaning.specs.Readings.{spacing_exp, size, sign, magnitude, infinity, exponent_field, position}

@@ -8,7 +8,7 @@ use native.Mathlib.Nat.{lt_of_le_of_lt, lt_of_lt_of_le, mul_assoc, pow-suc, zero
 use native.Mathlib.Decide.{dec_lt}
 use native.Mathlib.Omega.{arith}
 use borrow.Author.Tests.{leb-true, leb-false, le-leb, lt-leb, lt-ltb, le-ltb}
-use lib.Dec.{T, leb, ltb, eqb}
+use lib.Dec.{T, leb, eqb}
 use lib.IntN.{ℤ, pos}
 use lib.Pow.{pow_pos, pow-add, pow_mono, shl_lt}
 use lib.Ieee.{Float, binary32, binary64, round, of_int, to_bits, fits}

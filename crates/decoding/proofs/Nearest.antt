@@ -1,13 +1,13 @@
 -- The kit's rounding is document 01's: of a whole number N of least spacings, the pattern of the nearest float is its sign and the nearest magnitude.
 -- Rounding drops as many binary digits of N as the exponent of the spacing at N says, and a multiple of that spacing in N's closed binade is a magnitude's size.
-use mathlib.Core.Path.{◌≡◌, refl, sym, ap, ◌∙◌}
+use mathlib.Core.Path.{◌≡◌, sym, ap, ◌∙◌}
 use mathlib.Core.Logic.{◌⊎◌, inl, inr}
 use mathlib.Core.Bool.{Bool, true, cond}
 use Prim.Native.Nat.{ℕ, suc, ◌+◌, ◌-◌, ◌*◌, ◌^◌, ◌≤◌, ◌<◌}
 use native.Mathlib.Nat.{le_refl, le_trans, lt_of_le_of_lt, lt_of_lt_of_le, lt_of_not-le, mul-le-mul_right, mul-lt-mul_of_pos_right, not-le_of_lt}
 use native.Mathlib.Omega.{arith}
 use lib.Pow.{pow_pos, pow-add, pow-lt, pow_mono}
-use lib.Ieee.{Format, binary32, binary64, prec, emax, low, hid, ones, top, round, to_bits, size as length}
+use lib.Ieee.{Format, binary32, binary64, prec, emax, low, ones, top, round, to_bits, size as length}
 use lib.Ieee.Digits.{size-le as length-le, size-lt as length-lt}
 use lib.Ieee.Exact.{HasValue, units_val}
 use lib.Ieee.Fits.{two, reach, round_is}
@@ -17,7 +17,7 @@ use Rattle.meaning.specs.Readings.{spacing_exp, spacing, size, infinity, magnitu
 use Rattle.meaning.specs.Methods.{nearest}
 use Rattle.meaning.proofs.Nearest.{nearest_between}
 use Rattle.meaning.proofs.Patterns.{magnitude_of_size, magnitude_of_floor}
-use Rattle.meaning.proofs.Sizes.{Form, form, size_at, size_form}
+use Rattle.meaning.proofs.Sizes.{form, size_at, size_form}
 use Rattle.absolute.proofs.Adding.{grid_is}
 use Rattle.absolute.proofs.Values.{exponent_bits, infinity_is, signed_bits}
 use Rattle.decoding.specs.Floats.{finite_float}

@@ -8,10 +8,10 @@ use native.Mathlib.Omega.{arith}
 use borrow.Author.Tests.{eq-eqb, ne_eqb, lt-ltb, le-ltb}
 use lib.Dec.{T, eqb, leb, ltb}
 use lib.Pow.{pow_pos}
-use lib.Ieee.{Float, nan, inf, fin, Format, binary32, binary64, prec, low, hid, ones, top, odd, of_fields, of_bits, to_bits, fits}
+use lib.Ieee.{Float, nan, inf, Format, binary32, binary64, prec, low, hid, ones, top, odd, of_fields, of_bits, to_bits, fits}
 use lib.Ieee.Bits.{of_bits-to_bits}
 use lib.Ieee.Exact.{HasValue}
-use Rattle.meaning.specs.Readings.{exponent_field, fraction, size, magnitude, infinity, finite}
+use Rattle.meaning.specs.Readings.{exponent_field, fraction, size, magnitude, finite}
 use Rattle.absolute.proofs.Values.{exponent_bits, infinity_is, fields_value}
 use Rattle.decoding.specs.Floats.{finite_float}
 

@@ -1,5 +1,5 @@
 -- The steps of a width from 2 to 16: at least one, and at most 65,534.
-use Prim.Native.Nat.{ℕ, ◌-◌, ◌≤◌}
+use Prim.Native.Nat.{ℕ, ◌≤◌}
 use native.Mathlib.Omega.{arith}
 use lib.Pow.{pow_mono}
 use Rattle.meaning.specs.Layers.{last_code}

@@ -8,7 +8,7 @@ use native.Mathlib.Omega.{arith}
 use borrow.Author.Tests.{eq-eqb, ne_eqb, le-leb}
 use lib.IntN.{negsuc, sub_ℕ}
 use lib.ListN.{length, get_or}
-use Rattle.meaning.specs.Readings.{position, missing}
+use Rattle.meaning.specs.Readings.{position}
 use Rattle.meaning.specs.Methods.{nearest}
 use Rattle.meaning.specs.Layers.{Summary, Nothing, Flat, Spread, Layer, missing_code, last_code, holds, least_from, smallest, summary, span, layer_of, code}
 use Rattle.meaning.specs.Calls.{stored_exponent}

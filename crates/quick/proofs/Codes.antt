@@ -2,14 +2,14 @@
 use mathlib.Core.Path.{◌≡◌, refl, sym, ap, ◌∙◌}
 use mathlib.Core.Logic.{inl, inr}
 use mathlib.Core.Bool.{Bool, true, false}
-use Prim.Native.Nat.{ℕ, zero, ◌+◌, ◌-◌, ◌*◌, ◌%◌, ◌^◌, ◌≤◌, ◌<◌}
+use Prim.Native.Nat.{ℕ, ◌+◌, ◌-◌, ◌*◌, ◌%◌, ◌^◌, ◌≤◌, ◌<◌}
 use native.Mathlib.Nat.{lt_of_mul-lt-mul_right, mul_assoc, zero-mul, mul-sub, mul_comm, mul-le-mul_right}
 use native.Mathlib.Decide.{dec_le}
 use native.Mathlib.Omega.{arith}
 use lib.Dec.{leb}
 use lib.Pow.{pow_pos, pow_mono, pow-add}
 use lib.Ieee.{binary32, binary64, of_bits, to_bits, add, sub}
-use Rattle.meaning.specs.Readings.{spacing_exp, size, sign, magnitude, infinity, origin, position}
+use Rattle.meaning.specs.Readings.{spacing_exp, size, magnitude, infinity, origin, position}
 use Rattle.meaning.specs.Methods.{nearest}
 use Rattle.meaning.specs.Layers.{last_code}
 use Rattle.meaning.proofs.Powers.{pow_split}
@@ -113,8 +113,8 @@ module _ (b' w r e : ℕ) (wide : b' ≤ 16) (c : CanCode w r e) (held : positio
       apart (of_bits binary32 w) (of_bits binary32 r) s t a b n (bits_value binary32 w (below_finite 23 8 w c.finite)) (bits_value binary32 r (below_finite 23 8 r fr)) g
       (short b' e n wide few held (whole s t g))
 
-  pub quick_code_lem : to_bits binary64 (add binary64 (sub binary64 (of_bits binary32 w) (of_bits binary32 r)) (of_bits binary64 ((e + 926) * 2 ^ 52))) % 65536
+  pub quick_code_is : to_bits binary64 (add binary64 (sub binary64 (of_bits binary32 w) (of_bits binary32 r)) (of_bits binary64 ((e + 926) * 2 ^ 52))) % 65536
       ≡ nearest (position 23 8 w - position 23 8 r) (2 ^ e)
-  quick_code_lem =
+  quick_code_is =
       let z : (e + 926) * 2 ^ 52 ≡ (e + 925 + 1) * 2 ^ 52 = omega arith in
       code_bits e n few c.holds (of_bits binary64 ((e + 926) * 2 ^ 52)) (offset_value binary64 (e + 925) ((e + 926) * 2 ^ 52) (omega arith) z) (sub binary64 (of_bits binary32 w) (of_bits binary32 r)) differ

@@ -1,9 +1,9 @@
 -- The code of a reading by doubles: the difference of two readings is exact where it has few digits, and 2 ^ 52 steps added to it round it to whole steps, ties to even,
 -- which then stand in the last bits of the pattern.
 use mathlib.Core.Path.{◌≡◌, refl, sym, ap, ◌∙◌}
-use mathlib.Core.Logic.{◌≢◌, inr}
+use mathlib.Core.Logic.{inr}
 use mathlib.Core.Bool.{Bool, true, false, cond, ◌&&◌, true≢false}
-use Prim.Native.Nat.{ℕ, zero, ◌+◌, ◌-◌, ◌*◌, ◌%◌, ◌^◌, ◌≤◌, ◌<◌}
+use Prim.Native.Nat.{ℕ, ◌+◌, ◌-◌, ◌*◌, ◌%◌, ◌^◌, ◌≤◌, ◌<◌}
 use native.Mathlib.Nat.{lt_of_lt_of_le, mul_assoc, mul-pos, mul-lt-mul_of_pos_right, zero-mul, sub-zero, zero-add}
 use native.Mathlib.Decide.{dec_lt}
 use native.Mathlib.Omega.{arith}
@@ -15,7 +15,7 @@ use lib.Ieee.{Float, nan, inf, fin, Format, binary64, up, down, round, sum, add,
 use lib.Ieee.Exact.{HasValue, round_exact}
 use lib.Ieee.Fits.{down_pos}
 use lib.Ieee.Scale.{round_same}
-use Rattle.meaning.specs.Readings.{size, infinity}
+use Rattle.meaning.specs.Readings.{infinity}
 use Rattle.meaning.specs.Methods.{nearest}
 use Rattle.meaning.proofs.Nearest.{nearest_scale, nearest_between}
 use Rattle.meaning.proofs.Sizes.{size_at}

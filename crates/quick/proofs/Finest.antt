@@ -2,7 +2,7 @@
 use mathlib.Core.Path.{◌≡◌, ap, ◌∙◌}
 use mathlib.Core.Logic.{◌≢◌, ◌⊎◌, inl, inr}
 use mathlib.Core.List.{List, [], ◌∷◌}
-use Prim.Native.Nat.{ℕ, zero, suc, min, ◌+◌, ◌-◌, ◌*◌, ◌/◌, ◌%◌, ◌≤◌, ◌<◌, suc-le-suc}
+use Prim.Native.Nat.{ℕ, zero, suc, min, ◌+◌, ◌-◌, ◌*◌, ◌/◌, ◌%◌, ◌≤◌, ◌<◌}
 use native.Mathlib.Nat.{not-suc-le-zero, le_of_suc-le-suc, le-div_iff_mul-le}
 use native.Mathlib.Numerals.{add-one}
 use native.Mathlib.Decide.{ℕ_discrete}
@@ -52,15 +52,15 @@ pub any_coarse : (j w : ℕ) → Coarse j w → Coarse 0 w
 any_coarse j w (inl z) = inl z
 any_coarse j w (inr l) = inr (l.0, omega arith)
 
-or_top_lem : (m L : ℕ) → L ≤ or_top m → (m ≡ 0) ⊎ (L ≤ m)
-or_top_lem m L k = go (ℕ_discrete m 0)
+zero_or_above : (m L : ℕ) → L ≤ or_top m → (m ≡ 0) ⊎ (L ≤ m)
+zero_or_above m L k = go (ℕ_discrete m 0)
   where
     go : Dec (m ≡ 0) → (m ≡ 0) ⊎ (L ≤ m)
     go (yes z) = inl z
     go (no z) = inr (rw (ne_eqb m 0 z) at k)
 
 one : (mark w L : ℕ) → L ≤ or_top (present_magnitude mark w) → w ≢ mark → (w % 2147483648 ≡ 0) ⊎ (L ≤ w % 2147483648)
-one mark w L h p = or_top_lem (w % 2147483648) L (rw (ne_eqb w mark p) at h)
+one mark w L h p = zero_or_above (w % 2147483648) L (rw (ne_eqb w mark p) at h)
 
 each : (mark L : ℕ) (ws : List ℕ) → L ≤ finest mark ws → (i : ℕ) → i < length ws → get_or ws i 0 ≢ mark → (get_or ws i 0 % 2147483648 ≡ 0) ⊎ (L ≤ get_or ws i 0 % 2147483648)
 unfolding finest
@@ -73,7 +73,7 @@ coarse e w (inl z) = zero_coarse (e - 53) w z
 coarse e w (inr l) = large_coarse e w l
 
 pub one_coarse : (e w : ℕ) → (e - 53 + 1) * 8388608 ≤ or_top (w % 2147483648) → Coarse (e - 53) w
-one_coarse e w h = coarse e w (or_top_lem (w % 2147483648) ((e - 53 + 1) * 8388608) h)
+one_coarse e w h = coarse e w (zero_or_above (w % 2147483648) ((e - 53 + 1) * 8388608) h)
 
 pub all_coarse : (mark e : ℕ) (ws : List ℕ) → (e - 53 + 1) * 8388608 ≤ finest mark ws → AllCoarse mark (e - 53) ws
 all_coarse mark e ws h i k p = coarse e (get_or ws i 0) (each mark ((e - 53 + 1) * 8388608) ws h i k p)

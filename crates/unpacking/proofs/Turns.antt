@@ -11,7 +11,7 @@ use lib.IntN.{ℤ, pos}
 use lib.ListN.{length, get_or, take, drop, length-map, length-take, length-drop}
 use lib.Ieee.{Float, nan, binary32, binary64, of_int, to_bits, fits}
 use Rattle.meaning.specs.Layers.{Layer, missing_code, runs, layers, unpacked_code, unpacked_codes}
-use Rattle.meaning.specs.Questions.{all, width_in_range, exponent_in_range}
+use Rattle.meaning.specs.Questions.{width_in_range, exponent_in_range}
 use Rattle.meaning.specs.Calls.{stored_layer, stored_layers}
 use Rattle.meaning.proofs.Accepted.{and_second}
 use Rattle.meaning.proofs.Elements.{all_at, layers_long, layers_at}
@@ -120,8 +120,8 @@ module _ (ws cs : List ℕ) (rs : List Float) (es : List ℤ) (L mark readings :
       abbrev layer : Layer
       layer = stored_layer (get_or ws i 0) (to_bits binary32 (get_or rs i nan)) (get_or es i (pos 0))
 
-      layer_at_lem : get_or stored i none ≡ layer
-      layer_at_lem =
+      stored_at : get_or stored i none ≡ layer
+      stored_at =
           layers_at ws (map (to_bits binary32) rs) es (one_reference inv.known) (one_exponent inv.known) none i (width_there h)
           ∙ ap (λ (r : ℕ). stored_layer (get_or ws i 0) r (get_or es i (pos 0))) (map_at (to_bits binary32) nan 0 rs i h)
 
@@ -141,7 +141,7 @@ module _ (ws cs : List ℕ) (rs : List Float) (es : List ℤ) (L mark readings :
           let zl : length zs ≡ a + L - a = ap length e ∙ simp (length-map, length-take, length-drop) (omega arith) in
           let fits : a + (a + L - a) ≤ length ys = omega (arith, as_many) in
           let is : zs ≡ unpacked_part mark (get_or stored i none) (take L (drop a cs)) =
-          e ∙ layer_is (a + L - a) ∙ ap (λ (j : ℕ). unpacked_part mark layer (take j (drop a cs))) k ∙ ap (λ (x : Layer). unpacked_part mark x (take L (drop a cs))) (sym layer_at_lem) in
+          e ∙ layer_is (a + L - a) ∙ ap (λ (j : ℕ). unpacked_part mark layer (take j (drop a cs))) k ∙ ap (λ (x : Layer). unpacked_part mark x (take L (drop a cs))) (sym stored_at) in
           record {
             known = inv.known;
             as_long = length_back ys a (a + L - a) zs zl fits ∙ inv.as_long;

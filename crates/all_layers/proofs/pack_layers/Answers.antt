@@ -2,9 +2,9 @@ use native.Mathlib.Omega.{arith}
 use borrow.Author.Rules.{rules}
 use mir.Facts.{to_z-of_z}
 use mir.Syntax.{w32}
-use Prim.Native.Nat.{◌+◌, ◌-◌, ◌≤◌}
-use lib.ListN.{length, length-take, length-drop}
-use Rattle.all_layers.proofs.Turns.{Turn, start, part_packable, room, turn, codes_end, references_end, exponents_end}
+use Prim.Native.Nat.{◌+◌, ◌-◌}
+use lib.ListN.{length-take, length-drop}
+use Rattle.all_layers.proofs.Turns.{start, part_packable, room, turn, codes_end, references_end, exponents_end}
 use Rattle.all_layers.proofs.pack_layers.Goals as goal
 
 pub loop-i-init : goal.loop-i-init

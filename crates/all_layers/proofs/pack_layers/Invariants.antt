@@ -1,9 +1,6 @@
-use native.Mathlib.Omega.{arith}
-use borrow.Author.Rules.{rules}
-use mir.Facts.{to_z-of_z}
-use Prim.Native.Nat.{◌+◌, ◌-◌, ◌≤◌}
-use lib.ListN.{length, length-take, length-drop}
-use Rattle.all_layers.proofs.Turns.{Turn, start, part_packable, room, turn, codes_end, references_end, exponents_end}
+use Prim.Native.Nat.{◌-◌}
+use lib.ListN.{length}
+use Rattle.all_layers.proofs.Turns.{Turn}
 use Rattle.all_layers.proofs.pack_layers.Given as goal
 
 abbrev pub invariant-loop-i : goal.invariant-loop-i

@@ -1,9 +1,7 @@
 -- `all_known` meets its contract: each turn of the loop takes a layer by the bits of its codes.
-use Prim.Native.Nat.{◌+◌, ◌-◌, ◌≤◌}
 use native.Mathlib.Omega.{arith}
 use borrow.Author.Tests.{le-leb, lt-leb}
-use lib.ListN.{length}
-use Rattle.asking_codes.proofs.Turns.{Turn, start, room, fails, passes, end}
+use Rattle.asking_codes.proofs.Turns.{start, room, fails, passes, end}
 use Rattle.asking_codes.proofs.all_known.Goals as goal
 
 pub loop-i-init : goal.loop-i-init

@@ -1,8 +1,6 @@
-use Prim.Native.Nat.{◌+◌, ◌-◌, ◌≤◌}
-use native.Mathlib.Omega.{arith}
-use borrow.Author.Tests.{le-leb, lt-leb}
+use Prim.Native.Nat.{◌-◌}
 use lib.ListN.{length}
-use Rattle.asking_codes.proofs.Turns.{Turn, start, room, fails, passes, end}
+use Rattle.asking_codes.proofs.Turns.{Turn}
 use Rattle.asking_codes.proofs.all_known.Given as goal
 
 -- `all_known` meets its contract: each turn of the loop takes a layer by the bits of its codes.

@@ -1,8 +1,6 @@
-use borrow.Author.Rules.{rules}
-use mathlib.Core.Path.{refl}
 use Prim.Native.Nat.{◌-◌}
 use lib.ListN.{length}
-use Rattle.asking_codes.proofs.Bits.{Left, start, turn, end}
+use Rattle.asking_codes.proofs.Bits.{Left}
 use Rattle.asking_codes.proofs.bits_of.Given as goal
 
 -- `bits_of` meets its contract: the bits of the codes before place i, beside those that are left.

@@ -9,7 +9,6 @@ use Rattle.meaning.proofs.Accepted.{and_first}
 use Rattle.asking_layers.specs.LayerAsked.{layer_refusal}
 use Rattle.asking_layers.proofs.ask_layers.Goals as goal
 
--- `ask_layers` meets its contract: the tests' values, on each way.
 -- what a test found, by the way that was taken after it
 found : {b d v : Bool} → b ≡ d → b ≡ v → d ≡ v
 found e t = sym e ∙ t

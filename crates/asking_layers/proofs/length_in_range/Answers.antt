@@ -2,7 +2,6 @@
 use borrow.Author.Tests.{le-leb, lt-leb}
 use Rattle.asking_layers.proofs.length_in_range.Goals as goal
 
--- `length_in_range` meets its contract: by its two tests.
 pub returns-then-length-lt1 : goal.returns-then-length-lt1
 returns-then-length-lt1 c = simp (lt-leb _ _ c.if-length-lt1.true)
 

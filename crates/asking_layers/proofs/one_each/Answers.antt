@@ -3,7 +3,6 @@ use borrow.Author.Tests.{eq-eqb, ne_eqb}
 use Rattle.meaning.specs.Questions.{all}
 use Rattle.asking_layers.proofs.one_each.Goals as goal
 
--- `one_each` meets its contract: by its three tests.
 pub returns-then-widths-layers : goal.returns-then-widths-layers
 returns-then-widths-layers c = simp (ne_eqb _ _ c.if-widths-layers.true)
 

@@ -2,7 +2,6 @@
 use borrow.Author.Tests.{le-leb, lt-leb}
 use Rattle.asking_layers.proofs.width_in_range.Goals as goal
 
--- `width_in_range` meets its contract: by its two tests.
 pub returns-then-width-lt2 : goal.returns-then-width-lt2
 returns-then-width-lt2 c = simp (lt-leb _ _ c.if-width-lt2.true)
 

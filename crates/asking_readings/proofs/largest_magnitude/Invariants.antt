@@ -1,8 +1,6 @@
-use borrow.Author.Rules.{rules}
 use Prim.Native.Nat.{◌-◌}
 use lib.ListN.{length}
-use native.Mathlib.Omega.{arith}
-use Rattle.asking_readings.proofs.Largest.{Turn, turn, end}
+use Rattle.asking_readings.proofs.Largest.{Turn}
 use Rattle.asking_readings.proofs.largest_magnitude.Given as goal
 
 abbrev pub invariant-loop-i : goal.invariant-loop-i

@@ -1,11 +1,7 @@
-use mathlib.Core.Path.{refl, sym, ◌∙◌}
 use Prim.Native.Nat.{◌-◌, ◌≤◌}
-use native.Mathlib.Omega.{arith}
-use borrow.Author.Tests.{not-true, not-false}
 use lib.ListN.{length}
-use lib.Ieee.{nan}
 use Rattle.decoding.specs.Floats.{finite_float}
-use Rattle.asking_layers.proofs.Every.{Left, left_passes, left_fails, left_none}
+use Rattle.asking_layers.proofs.Every.{Left}
 use Rattle.asking_values.proofs.all_finite.Given as goal
 
 -- `all_finite` meets its contract: the references before place i are finite.

@@ -1,15 +1,7 @@
-use mathlib.Core.Path.{refl, sym, ap, ◌∙◌}
 use Prim.Native.Nat.{◌-◌, ◌≤◌}
-use native.Mathlib.Omega.{arith}
-use borrow.Author.Rules.{rules}
-use borrow.Author.Tests.{not-true, not-false}
-use lib.IntN.{pos}
-use lib.ListN.{length, get_or}
-use mir.Facts.{to_z-of_z}
-use mir.Syntax.{w32}
-use mir.Val.{SFits}
+use lib.ListN.{length}
 use Rattle.meaning.specs.Questions.{exponent_in_range}
-use Rattle.asking_layers.proofs.Every.{Left, left_passes, left_fails, left_none}
+use Rattle.asking_layers.proofs.Every.{Left}
 use Rattle.asking_values.proofs.all_steps.Given as goal
 
 -- `all_steps` meets its contract: the exponents before place i are those of steps.

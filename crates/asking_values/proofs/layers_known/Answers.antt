@@ -1,6 +1,5 @@
 -- `layers_known` meets its contract: by the first test.
 use mathlib.Core.Path.{sym, ◌∙◌}
-use borrow.Author.Tests.{not-true, not-false}
 use Rattle.asking_values.proofs.layers_known.Goals as goal
 
 pub returns-then-not-all_finite : goal.returns-then-not-all_finite

@@ -1,5 +1,5 @@
-use Rattle.std.proofs.Common.{◌≡◌, ℕ, ◌-◌, ap, ◌∙◌, arith, rules}
-use Rattle.meaning.specs.Readings.{magnitude, sign, pattern}
+use Rattle.std.proofs.Common.{◌≡◌, ℕ, ◌-◌, ap, ◌∙◌, arith}
+use Rattle.meaning.specs.Readings.{magnitude, sign}
 use Rattle.meaning.proofs.Patterns.{magnitude_pattern}
 use Rattle.codes.proofs.Reading.{shift_bound, make_base, base_law}
 use Rattle.codes.proofs.base_of.Goals as goal

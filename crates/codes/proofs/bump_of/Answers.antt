@@ -1,4 +1,4 @@
-use Rattle.std.proofs.Common.{rules, eq-eqb, ne_eqb}
+use Rattle.std.proofs.Common.{eq-eqb, ne_eqb}
 use Rattle.codes.specs.Cut.{bump}
 use Rattle.codes.proofs.bump_of.Goals as goal
 

@@ -10,7 +10,8 @@ returns-then-w-mark c = simp (eq-eqb _ _ c.if-w-mark.true)
 pub code_with-requires : goal.code_with-requires
 code_with-requires c =
     let p = c.requires in
-    let y = p.can_code c.if-w-mark.false in record {base_value = p.base_value; w_bound = y.finite; reference_bound = p.reference_bound; exponent_bound = p.exponent_bound; w_bound_2 = y.size_w; reference_bound_2 = y.above; reference_bound_3 = y.holds; }
+    let y = p.can_code c.if-w-mark.false in
+    record { base_value = p.base_value; w_bound = y.finite; reference_bound = p.reference_bound; exponent_bound = p.exponent_bound; w_bound_2 = y.size_w; reference_bound_2 = y.above; reference_bound_3 = y.holds }
 
 pub returns : goal.returns
 unfolding code missing missing_code

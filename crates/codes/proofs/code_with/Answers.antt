@@ -1,5 +1,5 @@
-use Rattle.std.proofs.Common.{◌≡◌, ◌-◌, ◌^◌, ap, arith, pow_pos, rules}
-use Rattle.meaning.specs.Readings.{magnitude, sign}
+use Rattle.std.proofs.Common.{◌≡◌, ◌-◌, ◌^◌, arith, pow_pos}
+use Rattle.meaning.specs.Readings.{magnitude}
 use Rattle.meaning.specs.Methods.{nearest}
 use Rattle.meaning.specs.Readings.{position}
 use Rattle.meaning.proofs.Nearest.{nearest_between}
@@ -11,12 +11,11 @@ result_is : (c : goal.After-round_word-c)
     ≡ nearest (position 23 8 c.args.w - position 23 8 c.args.base.reference)
     (2 ^ c.args.base.exponent)
 result_is c =
-    let at = c in
-    let s = at.args in
+    let s = c.args in
     let t = c.unit_of-s in
     let x = c.cut_reading-a in
     let d = c.wrapping_add_u64-d in
-    with_law s.w s.base t.result d.result c.round_word-c.result x.result at.requires.base_value (sign_small s.base.reference (omega arith)) (omega arith) (omega arith)
+    with_law s.w s.base t.result d.result c.round_word-c.result x.result c.requires.base_value (sign_small s.base.reference (omega arith)) (omega arith) (omega arith)
     (omega arith) (omega arith) t.ensures x.ensures d.ensures.value c.round_word-c.ensures
 
 pub cut_reading-a-requires : goal.cut_reading-a-requires
@@ -26,8 +25,7 @@ cut_reading-a-requires c =
 
 pub overflow_add-a : goal.overflow_add-a
 overflow_add-a c =
-    let at = c in
-    omega (arith, reading_lost _ _ _ c.cut_reading-a.ensures, base_lost at.args.base at.requires.base_value)
+    omega (arith, reading_lost _ _ _ c.cut_reading-a.ensures, base_lost c.args.base c.requires.base_value)
 
 pub overflow_cast-result : goal.overflow_cast-result
 overflow_cast-result c =

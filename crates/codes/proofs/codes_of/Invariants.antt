@@ -1,8 +1,7 @@
-use Rattle.std.proofs.Common.{◌≡◌, ◌-◌, length, get_or, ◌∙◌, arith, length-set, rules}
+use Rattle.std.proofs.Common.{◌≡◌, ◌-◌, length}
 use Rattle.meaning.specs.Layers.{code}
-use Rattle.parts.proofs.Fills.{Filled, filled_turn, filled_end}
+use Rattle.parts.proofs.Fills.{Filled}
 use Rattle.codes.specs.Cut.{layer_by}
-use Rattle.codes.proofs.Reading.{marked, based, by_width}
 use Rattle.codes.proofs.codes_of.Given as goal
 
 abbrev pub invariant-loop-i : goal.invariant-loop-i

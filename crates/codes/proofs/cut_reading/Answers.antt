@@ -1,5 +1,5 @@
-use Rattle.std.proofs.Common.{◌≡◌, ℕ, ◌^◌, ap, ◌∙◌, arith, rules}
-use Rattle.meaning.specs.Readings.{magnitude, spacing_exp, size}
+use Rattle.std.proofs.Common.{◌≡◌, ℕ, ◌^◌, ap, ◌∙◌, arith}
+use Rattle.meaning.specs.Readings.{magnitude, spacing_exp}
 use Rattle.codes.specs.Cut.{cut_of}
 use Rattle.codes.proofs.Leaf.{make, reading_pos, reading_neg}
 use Rattle.codes.proofs.cut_reading.Goals as goal
@@ -7,8 +7,8 @@ use Rattle.codes.proofs.cut_reading.Goals as goal
 pub cut_size-c-requires : goal.cut_size-c-requires
 unfolding magnitude
 cut_size-c-requires c =
-    let s = c in
-    let e : c.shift_of-x.result ≡ spacing_exp 23 (magnitude 23 8 s.args.w) = c.shift_of-x.ensures in record {a_bound = c.twice_sig-a.ensures.small; x_bound = omega (arith, e, s.requires); }
+    let e : c.shift_of-x.result ≡ spacing_exp 23 (magnitude 23 8 c.args.w) = c.shift_of-x.ensures in
+    record { a_bound = c.twice_sig-a.ensures.small; x_bound = omega (arith, e, c.requires) }
 
 pub returns-then-w-lt2147483648 : goal.returns-then-w-lt2147483648
 unfolding magnitude

@@ -1,4 +1,4 @@
-use Rattle.std.proofs.Common.{arith, rules}
+use Rattle.std.proofs.Common.{arith}
 use Rattle.codes.proofs.Leaf.{make, cut_up, cut_down}
 use Rattle.codes.proofs.cut_size.Goals as goal
 

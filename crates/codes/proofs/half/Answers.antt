@@ -1,4 +1,4 @@
-use Rattle.std.proofs.Common.{◌-◌, mod-eq_of_lt, one-mul, arith, rules}
+use Rattle.std.proofs.Common.{◌-◌, mod-eq_of_lt, one-mul, arith}
 use lib.Pow.{pow-lt}
 use Rattle.codes.proofs.half.Goals as goal
 

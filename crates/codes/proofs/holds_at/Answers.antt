@@ -1,9 +1,9 @@
-use Rattle.std.proofs.Common.{◌≡◌, ℕ, ◌+◌, ◌-◌, ◌*◌, ◌^◌, leb, sym, ap, ◌∙◌, arith, rules, le-leb}
+use Rattle.std.proofs.Common.{◌≡◌, ℕ, ◌+◌, ◌-◌, ◌*◌, ◌^◌, sym, ap, ◌∙◌, arith, le-leb}
 use borrow.Author.Tests.{lt-leb}
-use Rattle.meaning.specs.Readings.{magnitude, sign, pattern}
+use Rattle.meaning.specs.Readings.{magnitude, sign}
 use Rattle.meaning.proofs.Patterns.{magnitude_pattern}
 use Rattle.codes.specs.Cut.{reading_of}
-use Rattle.codes.proofs.Reading.{Test, test_even, both_law, test_law, reading_lost, sign_small}
+use Rattle.codes.proofs.Reading.{test_even, both_law, test_law, reading_lost, sign_small}
 use Rattle.codes.proofs.holds_at.Goals as goal
 
 -- so many steps, in the units that sizes are cut to
@@ -22,8 +22,7 @@ overflow_add-lost c =
 
 pub returns-then-lost-eq2 : goal.returns-then-lost-eq2
 returns-then-lost-eq2 c =
-    let at = c in
-    let s = at.args in
+    let s = c.args in
     let t = c.unit_of-s in
     let x = c.cut_reading-a in
     let y = c.cut_reading-b in

@@ -1,4 +1,4 @@
-use Rattle.std.proofs.Common.{ℕ, ◌+◌, ◌-◌, ◌*◌, ◌^◌, ◌<◌, ◌≤◌, sym, ◌∙◌, subst, inl, inr, mul-le-mul_right, arith, rules, leb-false, leb-true}
+use Rattle.std.proofs.Common.{ℕ, ◌+◌, ◌-◌, ◌*◌, ◌^◌, ◌<◌, ◌≤◌, sym, ◌∙◌, subst, inl, inr, mul-le-mul_right, arith, leb-false, leb-true}
 use Rattle.meaning.specs.Readings.{magnitude, position}
 use Rattle.meaning.specs.Layers.{last_code}
 use Rattle.codes.proofs.Reading.{sign_small}
@@ -30,7 +30,8 @@ holds_at-h-requires c =
     let t = c.steps_of-steps.ensures in
     let e = c.loop-e.e in
     let n : position 23 8 s.hi - position 23 8 s.lo ≤ 65534 * 2 ^ e = omega (arith, i.0, mul-le-mul_right (2 ^ e) (steps_few s.width (omega arith))) in
-    let b = lower_shifts s.lo s.hi (sign_small s.lo (omega arith)) (omega arith) (omega arith) (omega arith) e n in record {hi_bound = omega arith; lo_bound = omega arith; e_bound = omega arith; hi_bound_2 = b.0; lo_bound_2 = b.1; lo_bound_3 = omega arith; e_bound_2 = lower_small (position 23 8 s.hi - position 23 8 s.lo) e n; le_steps = omega (arith, t, steps_some s.width (omega arith)); steps_bound = omega (arith, t, steps_few s.width (omega arith)); }
+    let b = lower_shifts s.lo s.hi (sign_small s.lo (omega arith)) (omega arith) (omega arith) (omega arith) e n in
+    record { hi_bound = omega arith; lo_bound = omega arith; e_bound = omega arith; hi_bound_2 = b.0; lo_bound_2 = b.1; lo_bound_3 = omega arith; e_bound_2 = lower_small (position 23 8 s.hi - position 23 8 s.lo) e n; le_steps = omega (arith, t, steps_some s.width (omega arith)); steps_bound = omega (arith, t, steps_few s.width (omega arith)) }
 
 -- what the test says, of the width's steps
 pub loop-e-preserved : goal.loop-e-preserved

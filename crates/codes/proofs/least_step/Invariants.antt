@@ -1,9 +1,6 @@
-use Rattle.std.proofs.Common.{ℕ, ◌+◌, ◌-◌, ◌*◌, ◌^◌, ◌<◌, ◌≤◌, sym, ◌∙◌, subst, inl, inr, mul-le-mul_right, arith, rules, leb-false, leb-true}
-use Rattle.meaning.specs.Readings.{magnitude, position}
+use Rattle.std.proofs.Common.{◌-◌, ◌*◌, ◌^◌, ◌≤◌}
+use Rattle.meaning.specs.Readings.{position}
 use Rattle.meaning.specs.Layers.{last_code}
-use Rattle.codes.proofs.Reading.{sign_small}
-use Rattle.layer_width.proofs.Steps.{steps_some, steps_few}
-use Rattle.codes.proofs.Least.{least_is, lower_small, start_holds, lower_shifts}
 use Rattle.codes.proofs.least_step.Given as goal
 
 abbrev pub invariant-loop-e : goal.invariant-loop-e

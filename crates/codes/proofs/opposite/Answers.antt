@@ -1,4 +1,4 @@
-use Rattle.std.proofs.Common.{arith, rules}
+use Rattle.std.proofs.Common.{arith}
 use Rattle.meaning.specs.Readings.{sign, magnitude, pattern}
 use Rattle.codes.proofs.opposite.Goals as goal
 

@@ -1,5 +1,5 @@
-use Rattle.std.proofs.Common.{ℕ, ◌+◌, ◌-◌, ◌/◌, ◌%◌, ◌^◌, ap, ◌∙◌, arith, pow_pos, pow_mono, rules}
-use Rattle.codes.specs.Cut.{bump, round_word}
+use Rattle.std.proofs.Common.{ℕ, ◌+◌, ◌-◌, ◌/◌, ◌%◌, ◌^◌, ap, ◌∙◌, arith, pow_pos, pow_mono}
+use Rattle.codes.specs.Cut.{round_word}
 use Rattle.codes.proofs.Leaf.{bump_small}
 use Rattle.codes.proofs.round_word.Goals as goal
 

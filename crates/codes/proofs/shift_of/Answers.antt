@@ -1,4 +1,4 @@
-use Rattle.std.proofs.Common.{arith, rules}
+use Rattle.std.proofs.Common.{arith}
 use Rattle.meaning.specs.Readings.{spacing_exp, exponent_field}
 use Rattle.codes.proofs.shift_of.Goals as goal
 

@@ -1,4 +1,4 @@
-use Rattle.std.proofs.Common.{◌^◌, mod-eq_of_lt, mul-le-mul, arith, pow_mono, rules}
+use Rattle.std.proofs.Common.{◌^◌, mod-eq_of_lt, mul-le-mul, arith, pow_mono}
 use Rattle.codes.proofs.top_of.Goals as goal
 
 pub returns : goal.returns

@@ -1,4 +1,4 @@
-use Rattle.std.proofs.Common.{arith, rules}
+use Rattle.std.proofs.Common.{arith}
 use Rattle.codes.proofs.Leaf.{sig_is, sig_size}
 use Rattle.codes.proofs.twice_sig.Goals as goal
 
@@ -10,4 +10,4 @@ overflow_sub-s c = omega (arith, sig_is c.args.m c.args.x c.requires)
 
 pub returns : goal.returns
 returns c =
-    record {size = sig_size c.args.m c.args.x c.requires; small = omega (arith, sig_is c.args.m c.args.x c.requires); }
+    record { size = sig_size c.args.m c.args.x c.requires; small = omega (arith, sig_is c.args.m c.args.x c.requires) }

@@ -15,7 +15,6 @@ use Rattle.meaning.specs.Questions.{above}
 use Rattle.decoding.proofs.Steps.{small, step_is, sum_fits, sum_back}
 use Rattle.decoding.proofs.step_of.Goals as goal
 
--- `step_of` meets its contract: E + 1023 is a natural number, and E's double has it as its exponent field.
 -- the pattern
 pattern_is : (c : goal.Start) → nat_abs (to_z w32 (of_z w32 (to_z w32 (of_z w32 c.args.exponent) +ℤ pos 1023))) * 2 ^ 52 % 2 ^ 64 ≡ above 1023 c.args.exponent * 2 ^ 52
 pattern_is c =

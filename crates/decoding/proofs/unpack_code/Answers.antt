@@ -1,21 +1,18 @@
 -- `unpack_code` meets its contract: the value is no NaN, so that it has a pattern, and the code says which of the two is taken.
 use mathlib.Core.Path.{refl, sym, ap, subst}
 use native.Mathlib.Omega.{arith}
-use borrow.Author.Rules.{rules}
 use lib.Ieee.{binary64, to_bits}
 use Rattle.absolute.proofs.NotNan.{Number}
 use Rattle.decoding.specs.Floats.{decoded}
 use Rattle.decoding.proofs.Numbers.{unpacked_number}
 use Rattle.decoding.proofs.unpack_code.Goals as goal
 
--- `unpack_code` meets its contract: the value is no NaN, so that it has a pattern, and the code says which of the two is taken.
 pub value_of-double-requires : goal.value_of-double-requires
 value_of-double-requires c = c.requires
 
 pub float_to_bits-double : goal.float_to_bits-double
 float_to_bits-double c =
-    let s = c in
-    subst Number (sym c.value_of-double.ensures) (unpacked_number s.args.l s.args.code (omega arith) s.requires)
+    subst Number (sym c.value_of-double.ensures) (unpacked_number c.args.l c.args.code (omega arith) c.requires)
 
 pub returns-then-code-l : goal.returns-then-code-l
 unfolding decoded

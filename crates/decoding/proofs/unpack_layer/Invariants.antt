@@ -1,8 +1,7 @@
 use Prim.Native.Nat.{◌-◌}
-use native.Mathlib.Omega.{arith}
-use mathlib.Core.Path.{◌≡◌, refl, sym}
-use lib.ListN.{length, length-set}
-use Rattle.parts.proofs.Fills.{Filled, filled_turn, filled_end}
+use mathlib.Core.Path.{◌≡◌}
+use lib.ListN.{length}
+use Rattle.parts.proofs.Fills.{Filled}
 use Rattle.decoding.specs.Floats.{decoded}
 use Rattle.decoding.proofs.unpack_layer.Given as goal
 

@@ -1,6 +1,5 @@
 -- `value_of` meets its contract: it is the formula itself.
 use mathlib.Core.Path.{ap}
-use borrow.Author.Rules.{rules}
 use lib.IntN.{pos}
 use lib.Ieee.{Float, binary64, add, mul, of_int}
 use Rattle.decoding.specs.Floats.{unpacked}

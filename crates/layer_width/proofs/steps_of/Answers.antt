@@ -1,14 +1,12 @@
 -- `steps_of` meets its contract: the power fits its word.
-use borrow.Author.Rules.{rules}
 use native.Mathlib.Omega.{arith}
 use native.Mathlib.Nat.{mod-eq_of_lt}
 use mathlib.Core.Path.{◌≡◌}
-use Prim.Native.Nat.{◌-◌, ◌*◌, ◌%◌, ◌^◌}
+use Prim.Native.Nat.{◌*◌, ◌%◌, ◌^◌}
 use lib.Pow.{pow_mono}
 use Rattle.meaning.specs.Layers.{last_code}
 use Rattle.layer_width.proofs.steps_of.Goals as goal
 
--- `steps_of` meets its contract: the power fits its word.
 -- the power as the code shifts it
 power : (c : goal.Start) → 1 * 2 ^ c.args.width % 2 ^ 64 ≡ 1 * 2 ^ c.args.width
 power c = mod-eq_of_lt (omega (arith, pow_mono {i = c.args.width} {j = 16} c.requires.width_bound))

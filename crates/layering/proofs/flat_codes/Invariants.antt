@@ -1,9 +1,7 @@
-use native.Mathlib.Omega.{arith}
-use borrow.Author.Rules.{rules}
 use mathlib.Core.Path.{◌≡◌}
 use Prim.Native.Nat.{◌-◌}
-use lib.ListN.{length, length-set}
-use Rattle.parts.proofs.Fills.{Filled, filled_turn, filled_end}
+use lib.ListN.{length}
+use Rattle.parts.proofs.Fills.{Filled}
 use Rattle.layering.specs.Layering.{flat_code}
 use Rattle.layering.proofs.flat_codes.Given as goal
 

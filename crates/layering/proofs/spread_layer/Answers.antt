@@ -1,11 +1,9 @@
 use mathlib.Core.Path.{◌∙◌}
-use native.Mathlib.Omega.{arith}
 use borrow.Author.Rules.{rules}
 use mir.Facts.{to_z-of_z}
 use mir.Syntax.{w32}
-use lib.Ieee.{binary32, to_bits}
 use Rattle.summary.proofs.Patterns.{bits_number}
-use Rattle.summary.proofs.Made.{Made, made, Spreads, spreads}
+use Rattle.summary.proofs.Made.{made, spreads}
 use Rattle.layering.proofs.Ready.{few, size_low, all_ready, all_within, reference_is, stored_is, codes_are}
 use Rattle.layering.proofs.spread_layer.Goals as goal
 

@@ -1,5 +1,4 @@
 use mathlib.Core.Path.{sym, ap, ◌∙◌}
-use borrow.Author.Rules.{rules}
 use Rattle.meaning.specs.Questions.{refused}
 use Rattle.packing.specs.Answers.{answer_of}
 use Rattle.packing.proofs.Asked.{wrong_length, wrong_reading, fit, packable, acceptance}

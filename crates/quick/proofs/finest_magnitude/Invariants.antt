@@ -1,7 +1,6 @@
-use borrow.Author.Rules.{rules}
 use Prim.Native.Nat.{◌-◌}
 use lib.ListN.{length}
-use Rattle.quick.proofs.Finest.{Turn, start, turn, end}
+use Rattle.quick.proofs.Finest.{Turn}
 use Rattle.quick.proofs.finest_magnitude.Given as goal
 
 abbrev pub invariant-loop-i : goal.invariant-loop-i

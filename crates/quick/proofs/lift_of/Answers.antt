@@ -1,7 +1,6 @@
 use mathlib.Core.Path.{ap}
 use Prim.Native.Nat.{ℕ}
 use borrow.Author.Rules.{rules}
-use lib.Dec.{T}
 use lib.Ieee.{binary32, binary64, of_bits}
 use Rattle.quick.specs.Coarse.{lift_of}
 use Rattle.quick.proofs.Numbers.{single_number, float_number, lift_number, lift_fits}
@@ -14,9 +13,9 @@ pub float_to_float-low : goal.float_to_float-low
 float_to_float-low c = let n = float_number c.args.r c.requires.r_bound in search rules
 
 pub float_from_bits-lift : goal.float_from_bits-lift
-float_from_bits-lift c = let s = c in rw (lift_fits s.args.e s.requires.e_bound) (lift_number s.args.e s.requires.e_bound)
+float_from_bits-lift c = rw (lift_fits c.args.e c.requires.e_bound) (lift_number c.args.e c.requires.e_bound)
 
 pub returns : goal.returns
 unfolding lift_of
 returns c =
-    let s = c in ap (λ (x : ℕ). record { reference = s.args.r; low = of_bits binary32 s.args.r; lift = of_bits binary64 x }) (lift_fits s.args.e s.requires.e_bound)
+    ap (λ (x : ℕ). record { reference = c.args.r; low = of_bits binary32 c.args.r; lift = of_bits binary64 x }) (lift_fits c.args.e c.requires.e_bound)

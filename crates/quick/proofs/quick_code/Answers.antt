@@ -11,7 +11,7 @@ use Rattle.meaning.specs.Readings.{magnitude, infinity, missing}
 use Rattle.quick.specs.declared.Lift.{Lift}
 use Rattle.quick.specs.Coarse.{lift_of}
 use Rattle.quick.proofs.Numbers.{coded, single_number, float_number, sum_number}
-use Rattle.quick.proofs.Codes.{quick_code_lem}
+use Rattle.quick.proofs.Codes.{quick_code_is}
 use Rattle.quick.proofs.quick_code.Goals as goal
 
 -- the layer's two doubles
@@ -57,4 +57,4 @@ returns-else-w-mark c =
     let o = c.if-w-mark.false in
     let p : c.choose-p.result ≡ s.w = c.choose-p.ensures ∙ rw (ne_eqb s.w s.mark o) refl in
     rw (p, low_is s.l s.e q.l_value, lift_is s.l s.e q.l_value, ne_eqb s.w s.mark o)
-    (quick_code_lem s.width s.w s.l.reference s.e q.width_bound (q.can_code o) (q.reference_bound_2 o) q.reference_bound q.e_bound (q.coarse_2 o) q.coarse)
+    (quick_code_is s.width s.w s.l.reference s.e q.width_bound (q.can_code o) (q.reference_bound_2 o) q.reference_bound q.e_bound (q.coarse_2 o) q.coarse)

@@ -1,12 +1,11 @@
 use native.Mathlib.Omega.{arith}
 use borrow.Author.Rules.{rules}
 use mathlib.Core.Path.{◌≡◌, sym, ap, ◌∙◌, subst}
-use mathlib.Core.Logic.{◌≢◌}
 use Prim.Native.Nat.{ℕ, ◌+◌, ◌-◌, ◌*◌, ◌^◌, ◌≤◌, ◌<◌}
-use lib.ListN.{length, get_or, length-set}
+use lib.ListN.{get_or, length-set}
 use Rattle.meaning.specs.Readings.{magnitude, infinity, position}
 use Rattle.meaning.specs.Layers.{last_code, code}
-use Rattle.parts.proofs.Fills.{Filled, filled_turn, filled_end}
+use Rattle.parts.proofs.Fills.{filled_turn, filled_end}
 use Rattle.codes.specs.Cut.{CanCode, layer_by, code_by}
 use Rattle.codes.proofs.Reading.{by_width}
 use Rattle.quick.specs.declared.Lift.{Lift}
@@ -21,7 +20,8 @@ reference_is l r e h = ap (λ (x : Lift). x.reference) h
 
 pub lift_of-l-requires : goal.lift_of-l-requires
 lift_of-l-requires c =
-    let s = c in let p = s.requires in record {r_bound = p.r_bound; e_bound = p.e_bound; coarse = any_coarse (s.args.e + s.args.width - 53) s.args.r p.coarse; }
+    let p = c.requires in
+    record { r_bound = p.r_bound; e_bound = p.e_bound; coarse = any_coarse (c.args.e + c.args.width - 53) c.args.r p.coarse }
 
 pub quick_code-requires : goal.quick_code-requires
 quick_code-requires c =

@@ -20,8 +20,7 @@ float_from_bits-a c = key_number _ _ (c.requires (omega arith)).0 c.reading_of-a
 pub returns-then-low-high : goal.returns-then-low-high
 unfolding summary_of between
 returns-then-low-high c =
-    let s = c in
-    rw (le-ltb _ _ c.if-high-low.false, eq-eqb _ _ c.if-low-high.true) (ap Flat (key_back _ _ (s.requires (omega arith)).0 c.reading_of-a.ensures))
+    rw (le-ltb _ _ c.if-high-low.false, eq-eqb _ _ c.if-low-high.true) (ap Flat (key_back _ _ (c.requires (omega arith)).0 c.reading_of-a.ensures))
 
 pub reading_of-z-requires : goal.reading_of-z-requires
 reading_of-z-requires c = (c.requires (omega arith)).1
@@ -32,6 +31,5 @@ float_from_bits-z c = key_number _ _ (c.requires (omega arith)).1 c.reading_of-z
 pub returns : goal.returns
 unfolding summary_of between
 returns c =
-    let s = c in
     rw (le-ltb _ _ c.if-high-low.false, ne_eqb _ _ c.if-low-high.false)
-    (ap₂ Spread (key_back _ _ (s.requires (omega arith)).0 c.reading_of-a.ensures) (key_back _ _ (s.requires (omega arith)).1 c.reading_of-z.ensures))
+    (ap₂ Spread (key_back _ _ (c.requires (omega arith)).0 c.reading_of-a.ensures) (key_back _ _ (c.requires (omega arith)).1 c.reading_of-z.ensures))

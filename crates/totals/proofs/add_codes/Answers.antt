@@ -1,6 +1,5 @@
 -- `add_codes` meets its contract: there is room for one more code in each lane.
 use Rattle.totals.specs.Gathered.{added}
-use borrow.Author.Rules.{rules}
 use Rattle.totals.proofs.add_codes.Goals as goal
 
 pub returns : goal.returns

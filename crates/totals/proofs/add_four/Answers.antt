@@ -3,7 +3,6 @@ use borrow.Author.Tests.{lt-ltb}
 use Prim.Native.Nat.{◌+◌}
 use native.Mathlib.Omega.{arith}
 use lib.ListN.{length}
-use borrow.Author.Rules.{rules}
 use Rattle.totals.proofs.add_four.Goals as goal
 
 pub returns : goal.returns

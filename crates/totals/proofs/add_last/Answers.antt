@@ -1,5 +1,4 @@
 -- `add_last` meets its contract: by the four codes, or the missing one past the end.
-use borrow.Author.Rules.{rules}
 use Rattle.totals.proofs.add_last.Goals as goal
 
 pub returns : goal.returns

@@ -1,5 +1,4 @@
 -- `code_at` meets its contract: by its test.
-use borrow.Author.Rules.{rules}
 use borrow.Author.Tests.{lt-ltb, le-ltb}
 use mathlib.Core.Path.{refl}
 use Rattle.totals.proofs.code_at.Goals as goal

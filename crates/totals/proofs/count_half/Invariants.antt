@@ -1,9 +1,7 @@
-use borrow.Author.Rules.{rules}
 use Prim.Native.Nat.{◌-◌, ◌≤◌}
-use native.Mathlib.Omega.{arith}
 use lib.ListN.{length}
 use Rattle.meaning.specs.Totals.{one_present}
-use Rattle.totals.proofs.Gathering.{Left, left_start, left_turn, left_end}
+use Rattle.totals.proofs.Gathering.{Left}
 use Rattle.totals.proofs.count_half.Given as goal
 
 -- `count_half` meets its contract: what is counted before place i, beside the codes that are left.

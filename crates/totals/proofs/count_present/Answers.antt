@@ -1,5 +1,4 @@
 -- `count_present` meets its contract: the two halves, one after the other, are the codes.
-use borrow.Author.Rules.{rules}
 use Prim.Native.Nat.{◌/◌}
 use native.Mathlib.Omega.{arith}
 use lib.ListN.{length}

@@ -1,9 +1,6 @@
-use borrow.Author.Rules.{rules}
-use mathlib.Core.Path.{◌≡◌, refl}
-use Prim.Native.Nat.{◌+◌, ◌-◌, ◌≤◌}
-use native.Mathlib.Omega.{arith}
+use Prim.Native.Nat.{◌-◌, ◌≤◌}
 use lib.ListN.{length}
-use Rattle.totals.proofs.Gathering.{Turn, start, room, turn, end}
+use Rattle.totals.proofs.Gathering.{Turn}
 use Rattle.totals.proofs.gather.Given as goal
 
 -- `gather` meets its contract: two turns of four places at a time, and the last seven places at most.

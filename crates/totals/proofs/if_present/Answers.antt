@@ -5,11 +5,10 @@ use native.Mathlib.Omega.{arith}
 use Rattle.meaning.specs.Totals.{if_present}
 use Rattle.totals.proofs.if_present.Goals as goal
 
--- `if_present` meets its contract: by its test.
 pub returns-then-code-missing : goal.returns-then-code-missing
 unfolding if_present
-returns-then-code-missing c = record {is = rw (eq-eqb c.args.code c.args.missing (omega arith)) refl; small = omega arith; }
+returns-then-code-missing c = record { is = rw (eq-eqb c.args.code c.args.missing (omega arith)) refl; small = omega arith }
 
 pub returns-else-code-missing : goal.returns-else-code-missing
 unfolding if_present
-returns-else-code-missing c = record {is = rw (ne_eqb c.args.code c.args.missing (λ e. omega arith)) refl; small = omega arith; }
+returns-else-code-missing c = record { is = rw (ne_eqb c.args.code c.args.missing (λ e. omega arith)) refl; small = omega arith }
