@@ -1,5 +1,4 @@
 -- By the two cases of an answer.
-use borrow.Author.Rules.{rules}
 use mathlib.Core.Path.{sym, ap}
 use Rattle.trim.specs.declared.Answer.{Answer}
 use Rattle.trim.specs.Answers.{answer_of}

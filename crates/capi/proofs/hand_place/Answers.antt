@@ -1,5 +1,4 @@
 -- By the three cases of a comparison's answer.
-use borrow.Author.Rules.{rules}
 use mathlib.Core.Path.{sym, ap}
 use Rattle.beyond.specs.declared.Compared.{Compared}
 use Rattle.beyond.specs.Answers.{answer_of}

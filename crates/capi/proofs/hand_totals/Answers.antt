@@ -1,5 +1,4 @@
 -- By the two cases of the answer.
-use borrow.Author.Rules.{rules}
 use mathlib.Core.Path.{sym, ap}
 use Rattle.totals.specs.declared.Total.{Total}
 use Rattle.totals.specs.Answers.{answer_of}

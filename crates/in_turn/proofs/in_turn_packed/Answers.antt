@@ -1,5 +1,4 @@
 -- What the list leaves, what the packing of that leaves, and by both demand 3.
-use borrow.Author.Rules.{rules}
 use Rattle.in_turn.proofs.Packed.{pack_promised}
 use Rattle.in_turn.proofs.in_turn_packed.Goals as goal
 

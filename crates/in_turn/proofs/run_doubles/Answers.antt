@@ -1,9 +1,7 @@
 -- Turn after turn, by the laws of `Turns`.
 use borrow.Author.Rules.{rules}
-use Prim.Native.Nat.{◌-◌}
 use native.Mathlib.Omega.{arith}
-use lib.ListN.{length}
-use Rattle.in_turn.proofs.Turns.{Turn, turn_start, turn_next, turn_long, turn_end}
+use Rattle.in_turn.proofs.Turns.{turn_start, turn_next, turn_long, turn_end}
 use Rattle.in_turn.proofs.run_doubles.Goals as goal
 
 pub loop-i-init : goal.loop-i-init
