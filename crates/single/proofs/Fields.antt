@@ -1,6 +1,6 @@
 -- Method 6 on a single that isn't subnormal, by the tables of the exponent fields: the mask's bits become a one and zeros. A zero and what isn't finite have no mask and
 -- stay; any other has the tail that the definition gives.
-use Rattle.std.proofs.Common.{◌≡◌, ℕ, zero, ◌+◌, ◌-◌, ◌*◌, ◌/◌, ◌%◌, ◌^◌, ◌<◌, ◌≤◌, cond, ltb, ◌≢◌, List, get_or, sym, refl, ap, ◌∙◌, subst, mod-lt, div-add-mod', arith, pow_pos, le-ltb, lt-ltb, ne_eqb}
+use Rattle.std.proofs.Common.{◌≡◌, ℕ, ◌+◌, ◌-◌, ◌*◌, ◌/◌, ◌%◌, ◌^◌, ◌<◌, ◌≤◌, cond, ltb, ◌≢◌, List, get_or, sym, refl, ap, ◌∙◌, subst, mod-lt, div-add-mod', arith, pow_pos, le-ltb, lt-ltb, ne_eqb}
 use native.Mathlib.Decide.{dec_lt, ℕ_discrete}
 use lib.Bits.{bit_and, and_mask, and_le_l}
 use lib.Pow.{pow-lt}

@@ -1,5 +1,4 @@
 -- Both halves, joined.
-use borrow.Author.Rules.{rules}
 use mathlib.Core.Path.{◌∙◌}
 use lib.ListN.{length}
 use Rattle.array_planes.proofs.Places.{fetched_block}
@@ -7,7 +6,6 @@ use Rattle.array_planes.proofs.read_double_block.Goals as goal
 
 pub returns : goal.returns
 returns c =
-    let s = c in
     c.join_words.ensures
-    ∙ fetched_block 4 s.args.n s.args.at (length s.args.readings.now) s.args.planes.now s.args.low.now s.args.high.now s.requires.0.0.0 s.requires.0.0.1 s.requires.1 c.read_single_block.ensures
+    ∙ fetched_block 4 c.args.n c.args.at (length c.args.readings.now) c.args.planes.now c.args.low.now c.args.high.now c.requires.0.0.0 c.requires.0.0.1 c.requires.1 c.read_single_block.ensures
     c.read_single_block-2.ensures

@@ -1,10 +1,7 @@
-use borrow.Author.Rules.{rules}
-use mathlib.Core.Path.{◌≡◌, refl}
-use Prim.Native.Nat.{ℕ, ◌+◌, ◌-◌}
-use native.Mathlib.Omega.{arith}
-use lib.ListN.{length, drop, length-append, length-take, length-drop, length-replicate}
-use Rattle.array_planes.proofs.Places.{front_long}
-use Rattle.array_planes.proofs.Blocks.{Reading, reading_begin, reading_turn, reading_end}
+use mathlib.Core.Path.{◌≡◌}
+use Prim.Native.Nat.{◌-◌}
+use lib.ListN.{length}
+use Rattle.array_planes.proofs.Blocks.{Reading}
 use Rattle.array_planes.proofs.read_doubles.Given as goal
 
 -- Block after block.

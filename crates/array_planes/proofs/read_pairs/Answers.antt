@@ -1,5 +1,4 @@
 -- Both bytes at once.
-use borrow.Author.Rules.{rules}
 use mathlib.Core.Path.{◌∙◌}
 use lib.ListN.{length}
 use Rattle.array_planes.proofs.Places.{fetched_pairs}

@@ -1,11 +1,10 @@
 -- Block after block.
-use borrow.Author.Rules.{rules}
-use mathlib.Core.Path.{◌≡◌, refl}
+use mathlib.Core.Path.{refl}
 use Prim.Native.Nat.{ℕ, ◌+◌, ◌-◌}
 use native.Mathlib.Omega.{arith}
-use lib.ListN.{length, drop, length-append, length-take, length-drop, length-replicate}
+use lib.ListN.{drop, length-append, length-take, length-drop, length-replicate}
 use Rattle.array_planes.proofs.Places.{front_long}
-use Rattle.array_planes.proofs.Blocks.{Reading, reading_begin, reading_turn, reading_end}
+use Rattle.array_planes.proofs.Blocks.{reading_begin, reading_turn, reading_end}
 use Rattle.array_planes.proofs.read_singles.Goals as goal
 
 pub loop-a-init : goal.loop-a-init
@@ -53,10 +52,9 @@ slice_bounds-read_single_block-end c = omega (arith, c.at_most.ensures)
 pub read_single_block-requires : goal.read_single_block-requires
 read_single_block-requires c =
     let at = c.loop-a in
-    let s = c in
     let k = c.at_most in
     let l = length-take (at.a + k.result - at.a) (drop at.a at.readings) in
-    ((omega (arith, l, k.ensures, front_long c.loop-a.low 512 (omega (arith, c.loop-a.invariant.1.0))), omega (arith, l, k.ensures, front_long c.loop-a.high 512 (omega (arith, c.loop-a.invariant.1.1)))), omega (arith, l, k.ensures, at.invariant.0.long, s.requires))
+    ((omega (arith, l, k.ensures, front_long c.loop-a.low 512 (omega (arith, c.loop-a.invariant.1.0))), omega (arith, l, k.ensures, front_long c.loop-a.high 512 (omega (arith, c.loop-a.invariant.1.1)))), omega (arith, l, k.ensures, at.invariant.0.long, c.requires))
 
 pub loop-a-smaller : goal.loop-a-smaller
 loop-a-smaller c = omega (arith, c.at_most.ensures, c.loop-a.invariant.0.long)
@@ -64,9 +62,8 @@ loop-a-smaller c = omega (arith, c.at_most.ensures, c.loop-a.invariant.0.long)
 pub loop-a-preserved : goal.loop-a-preserved
 loop-a-preserved c =
     let at = c.loop-a in
-    let s = c in
     let k = c.at_most in (
-      reading_turn at.invariant.0 s.requires (at.a + k.result - at.a) (at.a + k.result) (omega arith) (omega (arith, k.ensures, at.invariant.0.long)) c.read_single_block.ensures,
+      reading_turn at.invariant.0 c.requires (at.a + k.result - at.a) (at.a + k.result) (omega arith) (omega (arith, k.ensures, at.invariant.0.long)) c.read_single_block.ensures,
       (simp (length-append, length-take, length-drop) (omega (arith, c.loop-a.invariant.1.0)), simp (length-append, length-take, length-drop) (omega (arith, c.loop-a.invariant.1.1))),
     )
 

@@ -1,5 +1,4 @@
 -- The low halves, and then the high ones.
-use borrow.Author.Rules.{rules}
 use mathlib.Core.Path.{refl}
 use lib.ListN.{length}
 use Rattle.array_planes.proofs.Places.{stored_block}
@@ -7,7 +6,6 @@ use Rattle.array_planes.proofs.write_double_block.Goals as goal
 
 pub returns : goal.returns
 returns c =
-    let s = c in
-    let ws = s.args.readings.now in
-    stored_block 4 s.args.n s.args.at (length ws) s.args.planes.now ws s.args.halves.now refl s.requires.0.0 c.cut_words.ensures c.write_single_block.ensures
+    let ws = c.args.readings.now in
+    stored_block 4 c.args.n c.args.at (length ws) c.args.planes.now ws c.args.halves.now refl c.requires.0.0 c.cut_words.ensures c.write_single_block.ensures
     c.cut_words-2.ensures c.write_single_block-2.ensures

@@ -1,10 +1,7 @@
-use borrow.Author.Rules.{rules}
 use mathlib.Core.Path.{◌≡◌}
-use Prim.Native.Nat.{ℕ, ◌+◌, ◌-◌}
-use native.Mathlib.Omega.{arith}
-use lib.ListN.{length, drop, length-append, length-take, length-drop, length-replicate}
-use Rattle.array_planes.proofs.Places.{front_long}
-use Rattle.array_planes.proofs.Blocks.{Writing, writing_begin, writing_turn, writing_end}
+use Prim.Native.Nat.{◌-◌}
+use lib.ListN.{length}
+use Rattle.array_planes.proofs.Blocks.{Writing}
 use Rattle.array_planes.proofs.write_doubles.Given as goal
 
 -- Block after block.

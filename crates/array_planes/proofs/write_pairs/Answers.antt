@@ -1,5 +1,4 @@
 -- The low bytes, and then the high ones.
-use borrow.Author.Rules.{rules}
 use lib.ListN.{length}
 use Rattle.array_planes.proofs.Places.{stored_pairs}
 use Rattle.array_planes.proofs.write_pairs.Goals as goal

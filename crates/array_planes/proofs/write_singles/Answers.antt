@@ -1,11 +1,9 @@
 -- Block after block.
-use borrow.Author.Rules.{rules}
-use mathlib.Core.Path.{◌≡◌}
 use Prim.Native.Nat.{ℕ, ◌+◌, ◌-◌}
 use native.Mathlib.Omega.{arith}
-use lib.ListN.{length, drop, length-append, length-take, length-drop, length-replicate}
+use lib.ListN.{drop, length-append, length-take, length-drop, length-replicate}
 use Rattle.array_planes.proofs.Places.{front_long}
-use Rattle.array_planes.proofs.Blocks.{Writing, writing_begin, writing_turn, writing_end}
+use Rattle.array_planes.proofs.Blocks.{writing_begin, writing_turn, writing_end}
 use Rattle.array_planes.proofs.write_singles.Goals as goal
 
 pub loop-a-init : goal.loop-a-init
@@ -41,10 +39,9 @@ slice_bounds-halves-end c = omega (arith, c.loop-a.invariant.1)
 pub write_single_block-requires : goal.write_single_block-requires
 write_single_block-requires c =
     let at = c.loop-a in
-    let s = c in
     let k = c.at_most in
-    let l = length-take (at.a + k.result - at.a) (drop at.a s.args.readings.now) in
-    (omega (arith, l, k.ensures, front_long c.loop-a.halves 512 (omega (arith, c.loop-a.invariant.1))), omega (arith, l, k.ensures, at.invariant.0.long, s.requires.1))
+    let l = length-take (at.a + k.result - at.a) (drop at.a c.args.readings.now) in
+    (omega (arith, l, k.ensures, front_long c.loop-a.halves 512 (omega (arith, c.loop-a.invariant.1))), omega (arith, l, k.ensures, at.invariant.0.long, c.requires.1))
 
 pub loop-a-smaller : goal.loop-a-smaller
 loop-a-smaller c = omega (arith, c.at_most.ensures)
@@ -52,9 +49,8 @@ loop-a-smaller c = omega (arith, c.at_most.ensures)
 pub loop-a-preserved : goal.loop-a-preserved
 loop-a-preserved c =
     let at = c.loop-a in
-    let s = c in
     let k = c.at_most in (
-      writing_turn at.invariant.0 s.requires.0 s.requires.1 (at.a + k.result - at.a) (at.a + k.result) (omega arith) (omega (arith, k.ensures)) c.write_single_block.ensures,
+      writing_turn at.invariant.0 c.requires.0 c.requires.1 (at.a + k.result - at.a) (at.a + k.result) (omega arith) (omega (arith, k.ensures)) c.write_single_block.ensures,
       simp (length-append, length-take, length-drop) (omega (arith, c.loop-a.invariant.1)),
     )
 

@@ -2,14 +2,12 @@
 use mathlib.Core.Path.{◌≡◌, ap, ◌∙◌}
 use lib.IntN.{ℤ}
 use mir.Facts.{to_z-of_z}
-use borrow.Author.Rules.{rules}
 use Rattle.asking.specs.Asked.{refusal_of, asked_number}
 use Rattle.beyond.specs.Answers.{answer_of}
 use Rattle.beyond.proofs.Calls.{refused_first, none_refused, in_range, single_limit}
 use Rattle.beyond.proofs.first_beyond_singles.Goals as goal
 use Rattle.beyond.proofs.first_beyond_singles.Goals.{After-ask_single-asked}
 
--- Refused or accepted, by the laws of `Calls`.
 -- what was asked of p: the refusal's number, and p counted from the exponent of the least spacing
 refusal : (c : After-ask_single-asked) → c.ask_single-asked.result.refusal ≡ refusal_of 23 8 5 c.args.p
 refusal c = c.ask_single-asked.ensures.refusal ∙ ap (λ (z : ℤ). refusal_of 23 8 5 z) (to_z-of_z c.ranges.p)
@@ -20,17 +18,14 @@ number c = c.ask_single-asked.ensures.number ∙ ap (λ (z : ℤ). asked_number 
 pub returns-then-refusal-ne0 : goal.returns-then-refusal-ne0
 unfolding answer_of
 returns-then-refusal-ne0 c =
-    let b = c in
-    refused_first 23 8 _ _ _ _ _ _ _ b.ask_lengths.ensures (refusal (goal.at.returns-then-refusal-ne0 c).After-ask_single-asked) b.first_no-refusal.ensures c.if-refusal-ne0.true
+    refused_first 23 8 _ _ _ _ _ _ _ c.ask_lengths.ensures (refusal (goal.at.returns-then-refusal-ne0 c).After-ask_single-asked) c.first_no-refusal.ensures c.if-refusal-ne0.true
 
 pub scan-requires : goal.scan-requires
 scan-requires c =
-    let b = c in
-    let n = none_refused _ _ _ _ _ b.ask_lengths.ensures b.first_no-refusal.ensures c.if-refusal-ne0.false in
+    let n = none_refused _ _ _ _ _ c.ask_lengths.ensures c.first_no-refusal.ensures c.if-refusal-ne0.false in
     (single_limit _ _ _ n.1 (refusal (goal.at.scan-requires c).After-ask_single-asked) (number (goal.at.scan-requires c).After-ask_single-asked), n.0)
 
 pub returns : goal.returns
 returns c =
-    let b = c in
-    let n = none_refused _ _ _ _ _ b.ask_lengths.ensures b.first_no-refusal.ensures c.if-refusal-ne0.false in
+    let n = none_refused _ _ _ _ _ c.ask_lengths.ensures c.first_no-refusal.ensures c.if-refusal-ne0.false in
     c.scan.ensures ∙ in_range 23 8 _ _ _ _ n.0 _ _ (refusal (goal.at.returns c).After-ask_single-asked) n.1 (number (goal.at.returns c).After-ask_single-asked)

@@ -7,7 +7,6 @@ use borrow.Author.Tests.{eq-eqb, ne_eqb}
 use lib.Dec.{eqb}
 use Rattle.beyond.proofs.first_no.Goals as goal
 
--- The lengths first.
 by_lengths : (l a : ℕ) → l ≢ 0 → l ≡ cond (eqb l 0) a l
 by_lengths l a n = rw (ne_eqb l 0 n) refl
 

@@ -1,5 +1,4 @@
 -- By the two cases of an answer.
-use borrow.Author.Rules.{rules}
 use mathlib.Core.Path.{sym, ap}
 use Rattle.planes.specs.declared.Converted.{Converted}
 use Rattle.planes.specs.Answers.{answer_of}

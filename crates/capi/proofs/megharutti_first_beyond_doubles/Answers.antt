@@ -7,10 +7,11 @@ use Rattle.meaning.specs.Comparing.{Compared, first_beyond_doubles}
 use Rattle.capi.specs.ForC.{number_for_c, found_for_c}
 use Rattle.capi.proofs.megharutti_first_beyond_doubles.Goals as goal
 
--- The comparison's answer, handed over.
 pub returns : goal.returns
 returns c =
-    let s = c in
     let answer =
-    c.first_beyond_doubles-answer.ensures ∙ ap (λ (z : ℤ). first_beyond_doubles s.args.mark z s.args.raw.now s.args.trimmed.now) (to_z-of_z s.ranges.p) in
-    record {answer = c.hand_place.ensures.number ∙ ap number_for_c answer; found = c.hand_place.ensures.found ∙ ap (λ (o : Outcome Compared). found_for_c o s.args.found.now) answer; }
+    c.first_beyond_doubles-answer.ensures ∙ ap (λ (z : ℤ). first_beyond_doubles c.args.mark z c.args.raw.now c.args.trimmed.now) (to_z-of_z c.ranges.p) in
+    record {
+      answer = c.hand_place.ensures.number ∙ ap number_for_c answer;
+      found = c.hand_place.ensures.found ∙ ap (λ (o : Outcome Compared). found_for_c o c.args.found.now) answer;
+    }

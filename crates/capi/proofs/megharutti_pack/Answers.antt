@@ -1,5 +1,4 @@
 -- The answer, handed over.
-use borrow.Author.Rules.{rules}
 use mathlib.Core.Path.{ap, ◌∙◌}
 use Rattle.capi.specs.ForC.{number_for_c}
 use Rattle.capi.proofs.megharutti_pack.Goals as goal

@@ -7,5 +7,4 @@ use Rattle.capi.proofs.megharutti_trim_single.Goals as goal
 
 pub returns : goal.returns
 returns c =
-    let s = c in
-    c.trim_single.ensures ∙ ap (λ (z : ℤ). loader s.args.method z s.args.mark s.args.turn s.args.reading) (to_z-of_z s.ranges.setting)
+    c.trim_single.ensures ∙ ap (λ (z : ℤ). loader c.args.method z c.args.mark c.args.turn c.args.reading) (to_z-of_z c.ranges.setting)

@@ -1,5 +1,4 @@
 -- The trim's answer, handed over.
-use borrow.Author.Rules.{rules}
 use mathlib.Core.Path.{ap, ◌∙◌}
 use lib.IntN.{ℤ}
 use mir.Facts.{to_z-of_z}
@@ -11,7 +10,10 @@ use Rattle.capi.proofs.megharutti_trim_singles.Goals as goal
 
 pub returns : goal.returns
 returns c =
-    let s = c in
-    let after = ap (λ (z : ℤ). trim_singles s.args.method z s.args.mark s.args.readings.now) (to_z-of_z s.ranges.setting) in
+    let after = ap (λ (z : ℤ). trim_singles c.args.method z c.args.mark c.args.readings.now) (to_z-of_z c.ranges.setting) in
     let answer = c.trim_singles-answer.ensures.answer ∙ ap (λ (a : AfterTrim). a.answer) after in
-    record {answer = c.hand_over.ensures.number ∙ ap number_for_c answer; content = c.trim_singles-answer.ensures.content ∙ ap (λ (a : AfterTrim). a.readings) after; counted = c.hand_over.ensures.counted ∙ ap (λ (o : Outcome Counts). counts_for_c o s.args.counts.now) answer; }
+    record {
+      answer = c.hand_over.ensures.number ∙ ap number_for_c answer;
+      content = c.trim_singles-answer.ensures.content ∙ ap (λ (a : AfterTrim). a.readings) after;
+      counted = c.hand_over.ensures.counted ∙ ap (λ (o : Outcome Counts). counts_for_c o c.args.counts.now) answer;
+    }

@@ -1,9 +1,11 @@
 -- The answer, handed over.
-use borrow.Author.Rules.{rules}
 use mathlib.Core.Path.{ap, ◌∙◌}
 use Rattle.capi.specs.ForC.{number_for_c}
 use Rattle.capi.proofs.megharutti_unpack.Goals as goal
 
 pub returns : goal.returns
 returns c =
-    record {answer = c.unpacked_number.ensures ∙ ap number_for_c c.unpack-answer.ensures.answer; content = c.unpack-answer.ensures.content; }
+    record {
+      answer = c.unpacked_number.ensures ∙ ap number_for_c c.unpack-answer.ensures.answer;
+      content = c.unpack-answer.ensures.content;
+    }

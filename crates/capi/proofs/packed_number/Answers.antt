@@ -1,5 +1,4 @@
 -- By the two cases of an answer.
-use borrow.Author.Rules.{rules}
 use mathlib.Core.Path.{sym, ap}
 use Rattle.packing.specs.declared.Packed.{Packed}
 use Rattle.packing.specs.Answers.{answer_of}

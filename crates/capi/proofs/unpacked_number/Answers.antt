@@ -1,5 +1,4 @@
 -- By the two cases of an answer.
-use borrow.Author.Rules.{rules}
 use mathlib.Core.Path.{sym, ap}
 use Rattle.unpacking.specs.declared.Unpacked.{Unpacked}
 use Rattle.unpacking.specs.Answers.{answer_of}

@@ -10,12 +10,10 @@ use Rattle.digit_tables.proofs.field_mask.Goals as goal
 -- the shifted one
 one : (c : goal.After-difference-t) → 1 * 2 ^ c.difference-t.result % 2 ^ 32 ≡ 2 ^ field_tail c.args.n (c.args.i / 2) (c.args.i % 2)
 one c =
-    let s = c in
-    mask_some s.args.n (s.args.i / 2) (s.args.i % 2) c.field_place.result c.step_exponent-j.result c.difference-t.result
-    c.if-f-eq0.false c.if-f-eq255.false (omega arith) (omega arith) s.requires.1
+    mask_some c.args.n (c.args.i / 2) (c.args.i % 2) c.field_place.result c.step_exponent-j.result c.difference-t.result
+    c.if-f-eq0.false c.if-f-eq255.false (omega arith) (omega arith) c.requires.1
     c.field_place.ensures c.step_exponent-j.ensures.is c.difference-t.ensures
 
--- The mask by the field: none at either end, and elsewhere the tail that the place gives.
 pub returns-then-f-eq0 : goal.returns-then-f-eq0
 returns-then-f-eq0 c = let s = c.args in mask_zero s.n (s.i / 2) (s.i % 2) c.if-f-eq0.true
 

@@ -14,11 +14,10 @@ field_limit-requires c = (c.loop-f-test.true, c.requires)
 
 pub loop-f-preserved : goal.loop-f-preserved
 loop-f-preserved c =
-    let at = c in
     let v = c.field_limit.result in (
       omega arith,
-      length-set at.loop-f.all at.loop-f.f v ∙ at.loop-f.invariant.1,
-      filled field_limit at.loop-f.all at.loop-f.f v (omega (arith, at.loop-f.invariant.1)) c.field_limit.ensures at.loop-f.invariant.2,
+      length-set c.loop-f.all c.loop-f.f v ∙ c.loop-f.invariant.1,
+      filled field_limit c.loop-f.all c.loop-f.f v (omega (arith, c.loop-f.invariant.1)) c.field_limit.ensures c.loop-f.invariant.2,
     )
 
 pub returns : goal.returns

@@ -15,11 +15,10 @@ field_mask-requires c = (c.loop-i-test.true, c.requires)
 
 pub loop-i-preserved : goal.loop-i-preserved
 loop-i-preserved c =
-    let at = c in
     let v = c.field_mask.result in (
       omega arith,
-      length-set at.loop-i.all at.loop-i.i v ∙ at.loop-i.invariant.1,
-      filled (λ (k : ℕ). 2 ^ field_tail at.args.n (k / 2) (k % 2) - 1) at.loop-i.all at.loop-i.i v (omega (arith, at.loop-i.invariant.1)) c.field_mask.ensures at.loop-i.invariant.2,
+      length-set c.loop-i.all c.loop-i.i v ∙ c.loop-i.invariant.1,
+      filled (λ (k : ℕ). 2 ^ field_tail c.args.n (k / 2) (k % 2) - 1) c.loop-i.all c.loop-i.i v (omega (arith, c.loop-i.invariant.1)) c.field_mask.ensures c.loop-i.invariant.2,
     )
 
 pub returns : goal.returns

@@ -16,7 +16,7 @@ not_first m r t p e l = go r (subst (λ (xs : List ℕ). m < get_or xs r 0) e l)
     go (suc s) h = let e : suc s ≡ suc s - 1 + 1 = omega arith in (omega arith, subst (λ (i : ℕ). m < get_or powers i 0) e h)
 
 above : (c : goal.In-loop-r) → (1 ≤ c.loop-r.r) × (c.args.m < get_or powers (c.loop-r.r - 1 + 1) 0)
-above c = let s = c in not_first s.args.m c.loop-r.r s.args.table.now s.requires.0 s.requires.2 c.loop-r-test.true
+above c = not_first c.args.m c.loop-r.r c.args.table.now c.requires.0 c.requires.2 c.loop-r-test.true
 
 pub overflow_sub-r : goal.overflow_sub-r
 overflow_sub-r c = (above c).0
@@ -29,7 +29,6 @@ loop-r-preserved c = (omega arith, (above c).1)
 
 pub returns : goal.returns
 returns c =
-    let s = c in
     let r = c.loop-r.r in
-    let left : get_or powers r 0 ≤ s.args.m = subst (λ (l : List ℕ). get_or l r 0 ≤ s.args.m) s.requires.2 c.loop-r-test.false in
-    (omega arith, place_decade s.args.m r s.requires.0 (omega arith) (record { within = omega arith; reaches = left; under = λ _. c.loop-r.invariant.1 }))
+    let left : get_or powers r 0 ≤ c.args.m = subst (λ (l : List ℕ). get_or l r 0 ≤ c.args.m) c.requires.2 c.loop-r-test.false in
+    (omega arith, place_decade c.args.m r c.requires.0 (omega arith) (record { within = omega arith; reaches = left; under = λ _. c.loop-r.invariant.1 }))

@@ -3,7 +3,6 @@ use native.Mathlib.Omega.{arith}
 use Rattle.digit_tails.proofs.Singles.{normal_widened}
 use Rattle.digit_tails.proofs.widened.Goals as goal
 
--- A normal single's field and significand go up 29 bits, and the field grows by 896.
 pub subnormal_widened-requires : goal.subnormal_widened-requires
 subnormal_widened-requires c = (c.requires.0, c.if-m-lt8388608.true)
 

@@ -2,7 +2,6 @@
 use Rattle.std.proofs.Common.{eq-eqb, ne_eqb}
 use Rattle.double.proofs.choose_double.Goals as goal
 
--- The test's value, on either way.
 pub returns-then-a-b : goal.returns-then-a-b
 returns-then-a-b c = simp (eq-eqb _ _ c.if-a-b.true)
 

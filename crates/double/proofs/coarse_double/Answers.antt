@@ -35,10 +35,9 @@ unfolding magnitude over
 returns c =
     let s = c.args in
     let m = s.x % 2 ^ 63 in
-    let g = c in
-    let same = finite_or_zero m (infinity 52 11) g.below_double-a.result g.below_double-a.ensures in
+    let same = finite_or_zero m (infinity 52 11) c.below_double-a.result c.below_double-a.ensures in
     c.settle_double.ensures
-    ∙ settled_by_lem 52 11 (absolute s.q) s.mark s.x g.coarse_double-step.result.magnitude g.coarse_double-step.result.clipped c.below_double-z.result
-    (λ f. g.coarse_double-step.ensures.magnitude ∙ ap (λ (a : ℕ). new_magnitude 52 11 (absolute s.q) 0 a) (same f))
-    (λ f. g.coarse_double-step.ensures.clipped ∙ ap (λ (a : ℕ). cond (clips 52 11 (absolute s.q) a) 1 0) (same f))
+    ∙ settled_by_lem 52 11 (absolute s.q) s.mark s.x c.coarse_double-step.result.magnitude c.coarse_double-step.result.clipped c.below_double-z.result
+    (λ f. c.coarse_double-step.ensures.magnitude ∙ ap (λ (a : ℕ). new_magnitude 52 11 (absolute s.q) 0 a) (same f))
+    (λ f. c.coarse_double-step.ensures.clipped ∙ ap (λ (a : ℕ). cond (clips 52 11 (absolute s.q) a) 1 0) (same f))
     c.below_double-z.ensures

@@ -20,9 +20,8 @@ any c =
 -- what comes back is finite
 back : (c : After-halfshave_double-h) → c.halfshave_double-h.result < infinity 52 11
 back c =
-    let s = c in
     subst (λ (n : ℕ). n < infinity 52 11) (sym (c.halfshave_double-h.ensures ∙ sym c.double_tail-t.ensures.1))
-    (new_below 52 11 (digits s.args.n) s.requires.0.0 0 c.choose_double-a.result (any c.before.before).1)
+    (new_below 52 11 (digits c.args.n) c.requires.0.0 0 c.choose_double-a.result (any c.before.before).1)
 
 below : (c : After-choose_double-k) → c.choose_double-k.result < infinity 52 11
 below c =
@@ -31,7 +30,7 @@ below c =
 
 pub double_tail-t-requires : goal.double_tail-t-requires
 unfolding infinity
-double_tail-t-requires c = let s = c in ((any (goal.at.double_tail-t-requires c).After-choose_double-a).0, (any (goal.at.double_tail-t-requires c).After-choose_double-a).1, s.requires.0.0, s.requires.0.1, s.requires.1)
+double_tail-t-requires c = let a = any (goal.at.double_tail-t-requires c).After-choose_double-a in (a.0, a.1, c.requires.0.0, c.requires.0.1, c.requires.1)
 
 pub halfshave_double-h-requires : goal.halfshave_double-h-requires
 halfshave_double-h-requires c = (any (goal.at.halfshave_double-h-requires c).After-choose_double-a, c.double_tail-t.ensures.0)

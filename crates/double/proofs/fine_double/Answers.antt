@@ -36,10 +36,9 @@ unfolding magnitude over
 returns c =
     let s = c.args in
     let m = s.x % 2 ^ 63 in
-    let g = c in
-    let same = finite_or_zero m (infinity 52 11) g.below_double-a.result g.below_double-a.ensures in
+    let same = finite_or_zero m (infinity 52 11) c.below_double-a.result c.below_double-a.ensures in
     c.settle_double.ensures
-    ∙ settled_by_lem 52 11 (absolute s.q) s.mark s.x g.fine_double-n.result 0 c.below_double-z.result
-    (λ f. g.fine_double-n.ensures ∙ ap (λ (a : ℕ). new_magnitude 52 11 (absolute s.q) 0 a) (same f))
+    ∙ settled_by_lem 52 11 (absolute s.q) s.mark s.x c.fine_double-n.result 0 c.below_double-z.result
+    (λ f. c.fine_double-n.ensures ∙ ap (λ (a : ℕ). new_magnitude 52 11 (absolute s.q) 0 a) (same f))
     (λ f. rw (never_clips 52 11 s.q m (omega arith) f) refl)
     c.below_double-z.ensures

@@ -7,7 +7,6 @@ use Rattle.reading.proofs.Rose.{rose_word}
 use Rattle.double.proofs.settle_double.Goals as goal
 use Rattle.double.proofs.settle_double.Goals.{After-wrapping_sub_u64-less}
 
--- The rise by `rose_word`; each other choice is what the definition says.
 rises : (c : After-wrapping_sub_u64-less) (turned changed : ℕ)
     → let x = c.args.x in
     let p = c.choose_double-p.result in

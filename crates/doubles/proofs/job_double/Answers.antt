@@ -1,5 +1,4 @@
 -- The constants are those of the method's keep bits; a method without any has no tail.
-use borrow.Author.Rules.{rules}
 use mathlib.Core.Path.{refl, ◌∙◌}
 use native.Mathlib.Omega.{arith}
 use borrow.Author.Tests.{le-leb, lt-leb}
@@ -12,9 +11,17 @@ tail_of-tail-requires c = c.requires.keep (omega (arith, c.if-method-le4.true))
 pub returns-then-method-le4 : goal.returns-then-method-le4
 unfolding keep_of
 returns-then-method-le4 c =
-    record {method = refl; setting = refl; tail = record { fitting = c.requires; tail = c.tail_of-tail.ensures ∙ rw (le-leb c.args.method 4 c.if-method-le4.true) refl }; }
+    record {
+      method = refl;
+      setting = refl;
+      tail = record { fitting = c.requires; tail = c.tail_of-tail.ensures ∙ rw (le-leb c.args.method 4 c.if-method-le4.true) refl };
+    }
 
 pub returns : goal.returns
 unfolding keep_of
 returns c =
-    record {method = refl; setting = refl; tail = record { fitting = c.requires; tail = c.tail_of-tail-2.ensures ∙ rw (lt-leb c.args.method 4 c.if-method-le4.false) refl }; }
+    record {
+      method = refl;
+      setting = refl;
+      tail = record { fitting = c.requires; tail = c.tail_of-tail-2.ensures ∙ rw (lt-leb c.args.method 4 c.if-method-le4.false) refl };
+    }

@@ -1,5 +1,4 @@
 -- The method's walk from the first turn on.
-use borrow.Author.Rules.{rules}
 use mathlib.Core.Path.{refl, ap₂, ◌∙◌}
 use mathlib.Core.Logic.{inl}
 use Prim.Native.Nat.{ℕ}
@@ -21,4 +20,7 @@ returns c =
     let s = c.args in
     let j = c.job_double-job in
     let ws = s.readings.now in
-    record {sums = c.part_doubles-whole.ensures.sums ∙ whole_tallied 52 11 j.result.method j.result.n s.mark ws ∙ ap₂ (λ (m n : ℕ). tallied_by (turn_after 52 11 s.mark) (settled_by 52 11 (method_by m n) s.mark) 0 ws) j.ensures.method j.ensures.setting; content = c.part_doubles-whole.ensures.content ∙ whole_walked 52 11 j.result.method j.result.n s.mark ws ∙ ap₂ (λ (m n : ℕ). walked_by (turn_after 52 11 s.mark) (settled_by 52 11 (method_by m n) s.mark) 0 ws) j.ensures.method j.ensures.setting; }
+    record {
+      sums = c.part_doubles-whole.ensures.sums ∙ whole_tallied 52 11 j.result.method j.result.n s.mark ws ∙ ap₂ (λ (m n : ℕ). tallied_by (turn_after 52 11 s.mark) (settled_by 52 11 (method_by m n) s.mark) 0 ws) j.ensures.method j.ensures.setting;
+      content = c.part_doubles-whole.ensures.content ∙ whole_walked 52 11 j.result.method j.result.n s.mark ws ∙ ap₂ (λ (m n : ℕ). walked_by (turn_after 52 11 s.mark) (settled_by 52 11 (method_by m n) s.mark) 0 ws) j.ensures.method j.ensures.setting;
+    }

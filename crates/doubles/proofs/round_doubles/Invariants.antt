@@ -1,14 +1,10 @@
-use borrow.Author.Rules.{rules}
-use mathlib.Core.Path.{refl}
 use Prim.Native.Nat.{◌-◌}
-use native.Mathlib.Omega.{arith}
 use lib.ListN.{length}
 use Rattle.meaning.specs.Methods.{round}
 use Rattle.reading.specs.Left.{settled_by}
 use Rattle.loops.specs.Tallies.{totals_of}
 use Rattle.loops.specs.Walk.{stays}
-use Rattle.loops.proofs.Tallies.{one_by}
-use Rattle.loops.proofs.Walks.{Walk, begin, room, step, end}
+use Rattle.loops.proofs.Walks.{Walk}
 use Rattle.doubles.proofs.round_doubles.Given as goal
 
 -- The walk's laws at each turn.

@@ -1,10 +1,5 @@
-use mathlib.Core.Path.{◌≡◌, ◌∙◌, subst}
-use Prim.Native.Nat.{ℕ, ◌-◌, ◌≤◌, zero-le}
-use native.Mathlib.Omega.{arith}
-use lib.Bits.{bit_xor}
-use lib.ListN.{get_or, set, length-set}
-use Rattle.loops.specs.Walk.{state_at}
-use Rattle.rows.proofs.Rows.{Counting, count_begin, count_done, count_next}
+use Prim.Native.Nat.{◌-◌, ◌≤◌}
+use Rattle.rows.proofs.Rows.{Counting}
 use Rattle.groom_doubles.proofs.count_turns.Given as goal
 
 -- Column by column; the state after the last is written down behind it.

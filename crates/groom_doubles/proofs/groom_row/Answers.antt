@@ -1,15 +1,13 @@
 -- The walk's laws at each column; the state is the column.
-use borrow.Author.Rules.{rules}
 use mathlib.Core.Path.{◌≡◌, ap, ◌∙◌}
-use Prim.Native.Nat.{ℕ, suc, ◌-◌}
+use Prim.Native.Nat.{ℕ}
 use native.Mathlib.Numerals.{add-one}
 use native.Mathlib.Omega.{arith}
-use lib.ListN.{length, get_or}
+use lib.ListN.{get_or}
 use Rattle.reading.specs.Left.{settled_tail}
 use Rattle.double.specs.Left.{settled_of}
-use Rattle.loops.specs.Tallies.{totals_of}
 use Rattle.loops.proofs.Tallies.{one_tail}
-use Rattle.loops.proofs.Walks.{Walk, begin, room, step, end}
+use Rattle.loops.proofs.Walks.{begin, room, step, end}
 use Rattle.rows.specs.Rows.{fill_at}
 use Rattle.groom_doubles.proofs.groom_row.Goals as goal
 use Rattle.groom_doubles.proofs.groom_row.Goals.{After-tail_double-one}
@@ -38,5 +36,6 @@ pub loop-i-preserved : goal.loop-i-preserved
 loop-i-preserved c = step c.loop-i.invariant (omega arith) (is (goal.at.loop-i-preserved c).After-tail_double-one) c.plus-sums.ensures (add-one _)
 
 pub returns : goal.returns
-returns c = let it = end c.loop-i.invariant (omega arith) in
-    record { sums = it.0; content = it.1; }
+returns c =
+    let it = end c.loop-i.invariant (omega arith) in
+    record { sums = it.0; content = it.1 }

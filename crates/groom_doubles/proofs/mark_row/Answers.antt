@@ -1,9 +1,7 @@
 -- Column by column.
-use Prim.Native.Nat.{◌-◌}
 use mathlib.Core.Path.{◌∙◌}
 use native.Mathlib.Omega.{arith}
-use lib.ListN.{length}
-use Rattle.rows.proofs.Rows.{Marking, mark_begin, mark_next, mark_end}
+use Rattle.rows.proofs.Rows.{mark_begin, mark_next, mark_end}
 use Rattle.groom_doubles.proofs.mark_row.Goals as goal
 
 pub loop-i-init : goal.loop-i-init
@@ -19,5 +17,4 @@ pub loop-i-preserved : goal.loop-i-preserved
 loop-i-preserved c = mark_next c.loop-i.invariant (omega arith) (omega arith) c.turn_double.ensures
 
 pub returns : goal.returns
-returns c =
-    record {long = c.loop-i.invariant.long ∙ c.requires.1; content = mark_end c.loop-i.invariant (omega arith); }
+returns c = record { long = c.loop-i.invariant.long ∙ c.requires.1; content = mark_end c.loop-i.invariant (omega arith) }

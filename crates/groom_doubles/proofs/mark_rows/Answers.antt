@@ -1,16 +1,16 @@
 -- Row by row, each with a bit of its own.
-use mathlib.Core.Path.{◌≡◌, ap₂, ◌∙◌}
+use mathlib.Core.Path.{ap₂, ◌∙◌}
 use mathlib.Core.List.{List}
-use Prim.Native.Nat.{ℕ, min, ◌+◌, ◌-◌, ◌*◌}
+use Prim.Native.Nat.{ℕ, ◌+◌, ◌-◌}
 use native.Mathlib.Omega.{arith}
 use lib.Bits.{bit_xor}
-use lib.ListN.{length, drop, get_or, length-take}
+use lib.ListN.{drop, get_or, length-take}
 use Rattle.reading.specs.Left.{takes}
-use Rattle.rows.proofs.Rows.{row_is, Marked, rows_begin, rows_next, rows_end}
+use Rattle.rows.proofs.Rows.{row_is, rows_begin, rows_next, rows_end}
 use Rattle.groom_doubles.proofs.mark_rows.Goals as goal
 
 pub loop-a-init : goal.loop-a-init
-loop-a-init c = let s = c in (rows_begin 52 11 s.args.mark s.args.block.now s.requires.2, s.requires.1, omega arith)
+loop-a-init c = (rows_begin 52 11 c.args.mark c.args.block.now c.requires.2, c.requires.1, omega arith)
 
 pub overflow_add-e : goal.overflow_add-e
 overflow_add-e c = omega (arith, c.at_most.ensures)
@@ -52,4 +52,4 @@ pub returns : goal.returns
 returns c =
     let at = c.loop-a in
     let s = c.args in
-    record {long = at.invariant.1; content = rows_end 52 11 s.mark s.block.now at.invariant.0 (omega (arith, at.invariant.2)); }
+    record { long = at.invariant.1; content = rows_end 52 11 s.mark s.block.now at.invariant.0 (omega (arith, at.invariant.2)) }

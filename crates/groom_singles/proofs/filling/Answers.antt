@@ -11,4 +11,7 @@ pub returns : goal.returns
 returns c =
     let s = c.args in
     let value = c.choose_single.ensures in
-    record {value = value; most = subst (λ (a : ℕ). a ≤ s.ones) (sym value) (cond_le (eqb (bit_and s.odd s.bit) s.want) 0 s.ones s.ones zero-le (le_refl s.ones)); }
+    record {
+      value = value;
+      most = subst (λ (a : ℕ). a ≤ s.ones) (sym value) (cond_le (eqb (bit_and s.odd s.bit) s.want) 0 s.ones s.ones zero-le (le_refl s.ones));
+    }

@@ -1,14 +1,11 @@
 -- Block after block, by the walk's laws.
-use borrow.Author.Rules.{rules}
 use mathlib.Core.Path.{sym, subst}
 use Prim.Native.Nat.{◌+◌, ◌-◌}
 use native.Mathlib.Omega.{arith}
 use lib.ListN.{length, take, drop, length-take}
-use Rattle.reading.specs.Left.{settled_tail}
-use Rattle.loops.specs.Tallies.{totals_of}
-use Rattle.loops.specs.Methods.{Filling, filling_after}
+use Rattle.loops.specs.Methods.{Filling}
 use Rattle.loops.proofs.Tallies.{one_tail, few_wider}
-use Rattle.loops.proofs.Walks.{Walk, begin, few_part, part, end, end_state}
+use Rattle.loops.proofs.Walks.{begin, few_part, part, end, end_state}
 use Rattle.loops.proofs.Turns.{states_two}
 use Rattle.groom_singles.proofs.groom.Goals as goal
 
@@ -53,4 +50,4 @@ pub returns : goal.returns
 returns c =
     let at = c.loop-a in
     let done = end at.invariant.0 (omega arith) in
-    record {sums = done.0; add = end_state at.invariant.0 (omega arith); content = done.1; }
+    record { sums = done.0; add = end_state at.invariant.0 (omega arith); content = done.1 }

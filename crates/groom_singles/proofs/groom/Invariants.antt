@@ -1,14 +1,9 @@
-use borrow.Author.Rules.{rules}
-use mathlib.Core.Path.{sym, subst}
-use Prim.Native.Nat.{◌+◌, ◌-◌}
-use native.Mathlib.Omega.{arith}
-use lib.ListN.{length, take, drop, length-take}
+use Prim.Native.Nat.{◌-◌}
+use lib.ListN.{length}
 use Rattle.reading.specs.Left.{settled_tail}
 use Rattle.loops.specs.Tallies.{totals_of}
 use Rattle.loops.specs.Methods.{Filling, filling_after}
-use Rattle.loops.proofs.Tallies.{one_tail, few_wider}
-use Rattle.loops.proofs.Walks.{Walk, begin, few_part, part, end, end_state}
-use Rattle.loops.proofs.Turns.{states_two}
+use Rattle.loops.proofs.Walks.{Walk}
 use Rattle.groom_singles.proofs.groom.Given as goal
 
 -- Block after block, by the walk's laws.

@@ -14,17 +14,16 @@ count_turns-requires c = (omega (arith, c.at_most.ensures), c.mark_rows.ensures.
 
 pub groom_rows-requires : goal.groom_rows-requires
 groom_rows-requires c =
-    let s = c in
-    let ws = s.args.block.now in
+    let ws = c.args.block.now in
     let marks = c.mark_rows in
     let n = c.at_most in (
-      s.requires.0,
-      s.requires.1,
+      c.requires.0,
+      c.requires.1,
       λ r k h.
           ap (bit_of r) (c.count_turns.ensures.content k (omega (arith, row_length ws r, n.ensures)))
-          ∙ counted 23 8 s.args.mark ws marks.new.turns marks.ensures.content marks.ensures.long r k h,
+          ∙ counted 23 8 c.args.mark ws marks.new.turns marks.ensures.content marks.ensures.long r k h,
     )
 
 pub returns : goal.returns
 returns c =
-    record {sums = c.groom_rows.ensures.sums; add = c.groom_rows.ensures.add; content = c.groom_rows.ensures.content; }
+    record { sums = c.groom_rows.ensures.sums; add = c.groom_rows.ensures.add; content = c.groom_rows.ensures.content }

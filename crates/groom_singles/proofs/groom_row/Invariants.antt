@@ -1,14 +1,8 @@
-use borrow.Author.Rules.{rules}
-use mathlib.Core.Path.{◌≡◌, ap, ◌∙◌}
-use Prim.Native.Nat.{ℕ, suc, ◌-◌}
-use native.Mathlib.Numerals.{add-one}
-use native.Mathlib.Omega.{arith}
-use lib.ListN.{length, get_or}
+use Prim.Native.Nat.{suc, ◌-◌}
+use lib.ListN.{length}
 use Rattle.reading.specs.Left.{settled_tail}
-use Rattle.single.specs.Left.{settled_of}
 use Rattle.loops.specs.Tallies.{sums_of}
-use Rattle.loops.proofs.Tallies.{one_tail}
-use Rattle.loops.proofs.Walks.{Walk, begin, room, step, end}
+use Rattle.loops.proofs.Walks.{Walk}
 use Rattle.rows.specs.Rows.{fill_at}
 use Rattle.groom_singles.proofs.groom_row.Given as goal
 

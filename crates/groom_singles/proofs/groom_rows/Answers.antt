@@ -1,16 +1,15 @@
 -- Row after row, by the walk's laws; each row's fillings are those of its turns.
-use borrow.Author.Rules.{rules}
 use mathlib.Core.Path.{◌≡◌, refl, sym, ap, ◌∙◌, subst}
-use Prim.Native.Nat.{ℕ, min, ◌+◌, ◌-◌, ◌*◌, ◌≤◌, ◌<◌}
+use Prim.Native.Nat.{ℕ, ◌+◌, ◌-◌, ◌≤◌, ◌<◌}
 use native.Mathlib.Nat.{zero-add}
 use native.Mathlib.Omega.{arith}
 use lib.ListN.{length, take, drop, length-take, length-drop}
 use Rattle.reading.specs.Left.{Settled, settled_tail}
-use Rattle.loops.specs.Tallies.{sums_of, totals_of}
+use Rattle.loops.specs.Tallies.{sums_of}
 use Rattle.loops.specs.Walk.{state_at, walked_by, tallied_by}
 use Rattle.loops.specs.Methods.{Filling, filling_after}
 use Rattle.loops.proofs.Tallies.{one_tail, few_wider}
-use Rattle.loops.proofs.Walks.{Walk, begin, walked_length, few_part, part, end, end_state}
+use Rattle.loops.proofs.Walks.{begin, walked_length, few_part, part, end, end_state}
 use Rattle.loops.proofs.Turns.{states_two, told_walked, told_tallied}
 use Rattle.rows.specs.Rows.{fill_at}
 use Rattle.rows.proofs.Rows.{row_is, rest_same, filled}
@@ -27,12 +26,11 @@ columns : (c : After-groom_row-row)
     let row = take (at.a + n - at.a) (drop at.a at.block) in
     (k : ℕ) → k ≤ length row → fill_at s.turns.now bit want s.tail.ones k ≡ state_at (filling_after 23 8 s.tail.ones s.mark) at.add row k
 columns c =
-    let s = c in
     let at = c.loop-a in
     let n = c.at_most-n in
     let k = at.a + n.result - at.a in
-    let ws = s.args.block.now in
-    filled 23 8 s.args.mark ws s.args.turns.now s.requires.2 s.args.tail.ones at.add at.invariant.1 at.r c.row_bit-bit.ensures c.choose_single-want.ensures
+    let ws = c.args.block.now in
+    filled 23 8 c.args.mark ws c.args.turns.now c.requires.2 c.args.tail.ones at.add at.invariant.1 at.r c.row_bit-bit.ensures c.choose_single-want.ensures
     (ap (take k) at.invariant.3 ∙ row_is ws at.a at.r k at.invariant.2 (omega (arith, at.invariant.0.same)) (omega (arith, n.ensures, at.invariant.0.same)))
 
 -- and so the row is walked as the whole is
@@ -119,4 +117,4 @@ pub returns : goal.returns
 returns c =
     let at = c.loop-a in
     let done = end at.invariant.0 (omega arith) in
-    record {sums = done.0; add = end_state at.invariant.0 (omega arith); content = done.1; }
+    record { sums = done.0; add = end_state at.invariant.0 (omega arith); content = done.1 }

@@ -1,18 +1,10 @@
-use borrow.Author.Rules.{rules}
-use mathlib.Core.Path.{◌≡◌, refl, sym, ap, ◌∙◌, subst}
-use Prim.Native.Nat.{ℕ, min, ◌+◌, ◌-◌, ◌*◌, ◌≤◌, ◌<◌}
-use native.Mathlib.Nat.{zero-add}
-use native.Mathlib.Omega.{arith}
-use lib.ListN.{length, take, drop, length-take, length-drop}
-use Rattle.reading.specs.Left.{Settled, settled_tail}
-use Rattle.loops.specs.Tallies.{sums_of, totals_of}
-use Rattle.loops.specs.Walk.{state_at, walked_by, tallied_by}
+use mathlib.Core.Path.{◌≡◌}
+use Prim.Native.Nat.{min, ◌-◌, ◌*◌}
+use lib.ListN.{length, drop}
+use Rattle.reading.specs.Left.{settled_tail}
+use Rattle.loops.specs.Tallies.{totals_of}
 use Rattle.loops.specs.Methods.{Filling, filling_after}
-use Rattle.loops.proofs.Tallies.{one_tail, few_wider}
-use Rattle.loops.proofs.Walks.{Walk, begin, walked_length, few_part, part, end, end_state}
-use Rattle.loops.proofs.Turns.{states_two, told_walked, told_tallied}
-use Rattle.rows.specs.Rows.{fill_at}
-use Rattle.rows.proofs.Rows.{row_is, rest_same, filled}
+use Rattle.loops.proofs.Walks.{Walk}
 use Rattle.groom_singles.proofs.groom_rows.Given as goal
 
 -- Row after row, by the walk's laws; each row's fillings are those of its turns.

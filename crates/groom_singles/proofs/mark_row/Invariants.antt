@@ -1,8 +1,6 @@
 use Prim.Native.Nat.{◌-◌}
-use mathlib.Core.Path.{◌∙◌}
-use native.Mathlib.Omega.{arith}
 use lib.ListN.{length}
-use Rattle.rows.proofs.Rows.{Marking, mark_begin, mark_next, mark_end}
+use Rattle.rows.proofs.Rows.{Marking}
 use Rattle.groom_singles.proofs.mark_row.Given as goal
 
 -- Column by column.

@@ -1,11 +1,7 @@
-use mathlib.Core.Path.{◌≡◌, ap₂, ◌∙◌}
-use mathlib.Core.List.{List}
-use Prim.Native.Nat.{ℕ, min, ◌+◌, ◌-◌, ◌*◌}
-use native.Mathlib.Omega.{arith}
-use lib.Bits.{bit_xor}
-use lib.ListN.{length, drop, get_or, length-take}
-use Rattle.reading.specs.Left.{takes}
-use Rattle.rows.proofs.Rows.{row_is, Marked, rows_begin, rows_next, rows_end}
+use mathlib.Core.Path.{◌≡◌}
+use Prim.Native.Nat.{min, ◌-◌, ◌*◌}
+use lib.ListN.{length}
+use Rattle.rows.proofs.Rows.{Marked}
 use Rattle.groom_singles.proofs.mark_rows.Given as goal
 
 -- Row by row, each with a bit of its own.

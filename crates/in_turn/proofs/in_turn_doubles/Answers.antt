@@ -4,4 +4,4 @@ use Rattle.in_turn.proofs.Promise.{promised}
 use Rattle.in_turn.proofs.in_turn_doubles.Goals as goal
 
 pub returns : goal.returns
-returns c = record { content = search rules; promised = promised 52 11 c.run_doubles.ensures; }
+returns c = record { content = search rules; promised = promised 52 11 c.run_doubles.ensures }

@@ -1,9 +1,7 @@
 -- Turn after turn, by the laws of `Turns`.
 use borrow.Author.Rules.{rules}
-use Prim.Native.Nat.{◌-◌}
 use native.Mathlib.Omega.{arith}
-use lib.ListN.{length}
-use Rattle.in_turn.proofs.Turns.{Turn, turn_start, turn_next, turn_long, turn_end}
+use Rattle.in_turn.proofs.Turns.{turn_start, turn_next, turn_long, turn_end}
 use Rattle.in_turn.proofs.run_doubles.Goals as goal
 
 pub loop-i-init : goal.loop-i-init
@@ -11,8 +9,7 @@ loop-i-init c = turn_start 52 11 _ _ _ _
 
 pub loop-i-preserved : goal.loop-i-preserved
 loop-i-preserved c =
-    let at = c in
-    turn_next 52 11 _ _ _ _ _ _ _ (omega (arith, at.calls-n.ensures)) c.trim_doubles.ensures.content (search rules) at.loop-i.invariant
+    turn_next 52 11 _ _ _ _ _ _ _ (omega (arith, c.calls-n.ensures)) c.trim_doubles.ensures.content (search rules) c.loop-i.invariant
 
 pub shape_of-readings : goal.shape_of-readings
 shape_of-readings c = turn_long 52 11 _ _ _ _ _ _ c.loop-i.invariant

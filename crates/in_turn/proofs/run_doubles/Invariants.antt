@@ -1,8 +1,5 @@
-use borrow.Author.Rules.{rules}
 use Prim.Native.Nat.{◌-◌}
-use native.Mathlib.Omega.{arith}
-use lib.ListN.{length}
-use Rattle.in_turn.proofs.Turns.{Turn, turn_start, turn_next, turn_long, turn_end}
+use Rattle.in_turn.proofs.Turns.{Turn}
 use Rattle.in_turn.proofs.run_doubles.Given as goal
 
 -- Turn after turn, by the laws of `Turns`.

@@ -1,5 +1,4 @@
 -- The method's walk from the first turn on.
-use borrow.Author.Rules.{rules}
 use Prim.Native.Nat.{ℕ}
 use native.Mathlib.Omega.{arith}
 use lib.ListN.{replicate, length-replicate}
@@ -22,7 +21,7 @@ pub returns-then-n-le512 : goal.returns-then-n-le512
 returns-then-n-le512 c =
     let s = c.args in
     let it = by_method 52 11 8 s.n s.mark s.planes.now c.job_double-job.ensures.method c.job_double-job.ensures.setting (c.double_blocks.ensures.sums, c.double_blocks.ensures.content) in
-    record { sums = it.0; content = it.1; }
+    record { sums = it.0; content = it.1 }
 
 pub slice_bounds-room-end-then-n-gt16384 : goal.slice_bounds-room-end-then-n-gt16384
 slice_bounds-room-end-then-n-gt16384 c = omega (arith, length-replicate {A = ℕ} 8192 0)
@@ -36,7 +35,7 @@ pub returns-then-n-gt16384 : goal.returns-then-n-gt16384
 returns-then-n-gt16384 c =
     let s = c.args in
     let it = by_method 52 11 8 s.n s.mark s.planes.now c.job_double-job.ensures.method c.job_double-job.ensures.setting (c.double_blocks-then-n-gt16384.ensures.sums, c.double_blocks-then-n-gt16384.ensures.content) in
-    record { sums = it.0; content = it.1; }
+    record { sums = it.0; content = it.1 }
 
 pub slice_bounds-room-end-2 : goal.slice_bounds-room-end-2
 slice_bounds-room-end-2 c = omega (arith, length-replicate {A = ℕ} 2048 0)
@@ -50,4 +49,4 @@ pub returns : goal.returns
 returns c =
     let s = c.args in
     let it = by_method 52 11 8 s.n s.mark s.planes.now c.job_double-job.ensures.method c.job_double-job.ensures.setting (c.double_blocks-2.ensures.sums, c.double_blocks-2.ensures.content) in
-    record { sums = it.0; content = it.1; }
+    record { sums = it.0; content = it.1 }

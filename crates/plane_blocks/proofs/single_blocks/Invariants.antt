@@ -1,14 +1,9 @@
-use mathlib.Core.Path.{◌≡◌, refl, sym, ◌∙◌}
-use mathlib.Core.Logic.{inl}
-use Prim.Native.Nat.{◌+◌, ◌-◌}
-use native.Mathlib.Omega.{arith}
-use lib.ListN.{length, length-append, length-take, length-drop}
+use mathlib.Core.Path.{◌≡◌}
+use Prim.Native.Nat.{◌-◌}
+use lib.ListN.{length}
 use Rattle.loops.specs.Tallies.{totals_of}
 use Rattle.loops.specs.Methods.{Filling, settled_with, next_with}
-use Rattle.loops.proofs.Tallies.{few_wider}
-use Rattle.array_planes.specs.Places.{fetched}
-use Rattle.array_planes.proofs.Places.{front_long}
-use Rattle.plane_blocks.proofs.Trimming.{Trimming, one_with, begin, block_room, few_block, turn, end, filling_block}
+use Rattle.plane_blocks.proofs.Trimming.{Trimming}
 use Rattle.plane_blocks.proofs.single_blocks.Given as goal
 
 -- Block after block.

@@ -9,7 +9,6 @@ overflow_sub-result c = c.requires.0
 pub overflow_sub-result-2 : goal.overflow_sub-result-2
 overflow_sub-result-2 c = c.requires.1
 
--- No difference falls below zero.
 pub returns : goal.returns
 unfolding answer_of
 returns c = refl

@@ -1,9 +1,8 @@
 -- Refused or done, by the laws of `Calls`.
-use borrow.Author.Rules.{rules}
 use mathlib.Core.Path.{sym, ◌∙◌}
 use Prim.Native.Nat.{◌*◌}
 use native.Mathlib.Omega.{arith}
-use borrow.Author.Tests.{eqb-true, not-true, not-false}
+use borrow.Author.Tests.{eqb-true}
 use lib.ListN.{length}
 use Rattle.planes.specs.Answers.{answer_of}
 use Rattle.planes.proofs.Calls.{from_refused, from_done}
@@ -14,7 +13,7 @@ unfolding answer_of
 returns-then-not-planes_fit c =
     let s = c.args in
     let it = from_refused 8 s.readings.now s.planes.now (sym c.planes_fit.ensures ∙ c.if-not-planes_fit.true) in
-    record { answer = it.0; content = it.1; }
+    record { answer = it.0; content = it.1 }
 
 pub read_doubles-requires : goal.read_doubles-requires
 read_doubles-requires c =
@@ -27,4 +26,4 @@ unfolding answer_of
 returns c =
     let s = c.args in
     let it = from_done 8 s.readings.now s.planes.now (sym c.planes_fit.ensures ∙ c.if-not-planes_fit.false) c.read_doubles.ensures in
-    record { answer = it.0; content = it.1; }
+    record { answer = it.0; content = it.1 }

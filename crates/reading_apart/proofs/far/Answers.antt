@@ -11,7 +11,6 @@ use Rattle.reading_apart.specs.Words.{cut_limit, significand}
 use Rattle.reading_apart.proofs.Sums.{Worked, words_same, words_opposite}
 use Rattle.reading_apart.proofs.far.Goals as goal
 
--- By the law on words: with one sign the smaller size is rounded down and taken off, with two it is rounded up and added.
 worked : {bits high low q u v limit d x y : ℕ}
     → x ≡ spacing_exp bits high → y ≡ spacing_exp bits low → u ≡ 2 * significand bits high → v ≡ 2 * significand bits low
     → limit ≡ cut_limit bits x q → d ≡ min (x - y) (bits + 3) → Worked bits high low q u v limit d
@@ -22,9 +21,8 @@ few n e h = omega arith
 
 pub overflow_sub-x : goal.overflow_sub-x
 overflow_sub-x c =
-    let x = c in
-    let s = x.args in
-    omega (arith, x.spacing_exponent-x.ensures, c.spacing_exponent-y.ensures, spacing_mono s.bits {m = s.low} {n = s.high} (search rules))
+    let s = c.args in
+    omega (arith, c.spacing_exponent-x.ensures, c.spacing_exponent-y.ensures, spacing_mono s.bits {m = s.low} {n = s.high} (search rules))
 
 pub power-requires : goal.power-requires
 power-requires c = omega (arith, few _ c.smaller-d.ensures c.requires.0)
@@ -40,14 +38,13 @@ overflow_shr-result c = omega (arith, few _ c.smaller-d.ensures c.requires.0)
 
 pub overflow_add-result-then-opposite : goal.overflow_add-result-then-opposite
 overflow_add-result-then-opposite c =
-    let v = c in
     omega (
       arith,
       c.power.ensures,
       pow_mono (few _ c.smaller-d.ensures c.requires.0),
-      v.twice_significand-v.ensures.small,
-      v.twice_significand-u.ensures.small,
-      div-le_self (v.twice_significand-v.result + (c.power.result - 1)) (2 ^ c.smaller-d.result),
+      c.twice_significand-v.ensures.small,
+      c.twice_significand-u.ensures.small,
+      div-le_self (c.twice_significand-v.result + (c.power.result - 1)) (2 ^ c.smaller-d.result),
     )
 
 pub returns-then-opposite : goal.returns-then-opposite
@@ -59,8 +56,7 @@ overflow_shr-result-2 c = omega (arith, few _ c.smaller-d.ensures c.requires.0)
 
 pub overflow_add-result-2 : goal.overflow_add-result-2
 overflow_add-result-2 c =
-    let l = c in
-    omega (arith, l.limit_at-limit.ensures.small, l.twice_significand-v.ensures.small, div-le_self l.twice_significand-v.result (2 ^ c.smaller-d.result))
+    omega (arith, c.limit_at-limit.ensures.small, c.twice_significand-v.ensures.small, div-le_self c.twice_significand-v.result (2 ^ c.smaller-d.result))
 
 pub returns : goal.returns
 returns c = rw c.if-opposite.false (words_same _ _ _ _ (worked c.spacing_exponent-x.ensures c.spacing_exponent-y.ensures c.twice_significand-u.ensures.value c.twice_significand-v.ensures.value c.limit_at-limit.ensures.value c.smaller-d.ensures) (search rules))

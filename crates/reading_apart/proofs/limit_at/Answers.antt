@@ -3,12 +3,11 @@ use mathlib.Core.Path.{sym, ap, ◌∙◌}
 use Prim.Native.Nat.{ℕ, ◌^◌, zero-le}
 use native.Mathlib.Omega.{arith}
 use lib.Pow.{pow_mono}
-use borrow.Author.Rules.{rules}
 use Rattle.reading_apart.proofs.Sums.{cut_narrow, cut_wide}
 use Rattle.reading_apart.proofs.limit_at.Goals as goal
 
 pub returns-then-q-exponent : goal.returns-then-q-exponent
-returns-then-q-exponent c = record {value = sym (cut_narrow _ _ _ c.if-q-exponent.true); small = zero-le; }
+returns-then-q-exponent c = record { value = sym (cut_narrow _ _ _ c.if-q-exponent.true); small = zero-le }
 
 pub power-requires : goal.power-requires
 power-requires c = omega (arith, c.smaller.ensures)
@@ -16,4 +15,8 @@ power-requires c = omega (arith, c.smaller.ensures)
 pub returns : goal.returns
 returns c =
     let p = c.power.ensures in
-    let d = c.smaller.ensures in record {value = p ∙ ap (λ (n : ℕ). 2 ^ n) d ∙ sym (cut_wide _ _ _ c.if-q-exponent.false); small = omega (arith, p, pow_mono {i = c.smaller.result} {j = 55} (omega (arith, d))); }
+    let d = c.smaller.ensures in
+    record {
+      value = p ∙ ap (λ (n : ℕ). 2 ^ n) d ∙ sym (cut_wide _ _ _ c.if-q-exponent.false);
+      small = omega (arith, p, pow_mono {i = c.smaller.result} {j = 55} (omega (arith, d)));
+    }

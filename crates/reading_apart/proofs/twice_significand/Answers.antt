@@ -2,12 +2,10 @@
 use mathlib.Core.Path.{◌≡◌, refl}
 use Prim.Native.Nat.{◌*◌, ◌^◌}
 use native.Mathlib.Omega.{arith}
-use borrow.Author.Rules.{rules}
 use Rattle.meaning.specs.Readings.{spacing_exp}
 use Rattle.reading_apart.proofs.Sums.{Parts, significand_parts}
 use Rattle.reading_apart.proofs.twice_significand.Goals as goal
 
--- What a magnitude has above its spacing's exponent is its significand.
 parts : (c : goal.After-power) → Parts c.args.bits c.args.m
 parts c = significand_parts _ _ c.requires.0
 
@@ -25,4 +23,4 @@ overflow_mul-result-2 c = omega (arith, product c, (parts c).is, (parts c).small
 
 pub returns : goal.returns
 returns c =
-    record {value = omega (arith, product c, (parts c).is); small = omega (arith, product c, (parts c).is, (parts c).small); }
+    record { value = omega (arith, product c, (parts c).is); small = omega (arith, product c, (parts c).is, (parts c).small) }

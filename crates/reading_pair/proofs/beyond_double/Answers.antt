@@ -2,13 +2,11 @@
 use mathlib.Core.Path.{sym}
 use Prim.Native.Nat.{ℕ, ◌<◌}
 use native.Mathlib.Omega.{arith}
-use borrow.Author.Rules.{rules}
 use Rattle.meaning.specs.Readings.{infinity}
 use Rattle.reading_pair.specs.Limit.{limit_for}
 use Rattle.reading_pair.proofs.Limit.{limit_small, limit_finite}
 use Rattle.reading_pair.proofs.beyond_double.Goals as goal
 
--- What is surely within is not beyond; words decide about the rest.
 ends : (q : ℕ) → q < 2098 → limit_for 52 q < 0x7ff0000000000000
 unfolding infinity
 ends q h = limit_finite 52 q 11 (omega arith) (omega arith)
@@ -18,4 +16,4 @@ within_double-requires c = omega (arith, c.requires.1, ends c.args.q c.requires.
 
 pub returns-then-within_double : goal.returns-then-within_double
 returns-then-within_double c =
-    let s = c in sym (c.within_double.ensures c.if-within_double.true s.args.mark s.args.q (limit_small 52 s.args.q s.args.limit s.requires.1))
+    sym (c.within_double.ensures c.if-within_double.true c.args.mark c.args.q (limit_small 52 c.args.q c.args.limit c.requires.1))

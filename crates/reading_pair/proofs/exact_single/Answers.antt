@@ -1,7 +1,6 @@
 -- Both present and finite, then the words.
 use mathlib.Core.Path.{refl}
 use native.Mathlib.Omega.{arith}
-use borrow.Author.Rules.{rules}
 use Rattle.meaning.specs.Readings.{sign}
 use Rattle.reading_pair.proofs.Pairs.{first_left_out, second_left_out, both_in}
 use Rattle.reading_pair.proofs.exact_single.Goals as goal
@@ -12,11 +11,8 @@ returns-then-not-trimmable_single c = first_left_out 23 8 _ _ _ _ _ c.trimmable_
 pub returns-then-not-trimmable_single-2 : goal.returns-then-not-trimmable_single-2
 returns-then-not-trimmable_single-2 c = second_left_out 23 8 _ _ _ _ _ c.trimmable_single-2.ensures c.if-not-trimmable_single-2.true
 
--- Both present and finite, then the words.
 pub returns : goal.returns
 unfolding sign
 returns c =
-    let second = c in
-    let first = second in
-    both_in 23 8 _ _ _ _ _ _ _ first.trimmable_single.ensures second.trimmable_single-2.ensures second.if-not-trimmable_single.false c.if-not-trimmable_single-2.false
+    both_in 23 8 _ _ _ _ _ _ _ c.trimmable_single.ensures c.trimmable_single-2.ensures c.if-not-trimmable_single.false c.if-not-trimmable_single-2.false
     (λ f g. c.apart.ensures 8 refl (record { below = f; signed = omega arith }) (record { below = g; signed = omega arith }))

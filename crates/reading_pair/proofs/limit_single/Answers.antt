@@ -1,10 +1,8 @@
 -- A shift that loses nothing.
 use native.Mathlib.Omega.{arith}
-use borrow.Author.Rules.{rules}
 use Rattle.reading_pair.specs.Limit.{limit_for}
 use Rattle.reading_pair.proofs.limit_single.Goals as goal
 
--- A shift that loses nothing.
 pub returns : goal.returns
 unfolding limit_for
 returns c = omega (arith, c.over.ensures)

@@ -7,7 +7,6 @@ use Rattle.absolute.proofs.Values.{bits_number}
 use Rattle.reading_pair.proofs.Filter.{difference_number, filtered}
 use Rattle.reading_pair.proofs.near_single.Goals as goal
 
--- Rounding keeps the order.
 ends : (m : ℕ) → m < 0x7f800000 → m < infinity 23 8
 unfolding infinity
 ends m h = h
@@ -22,5 +21,4 @@ pub float_to_bits-result : goal.float_to_bits-result
 float_to_bits-result c = difference_number binary32 _ _ (ends _ c.requires.0) (ends _ c.requires.1.0)
 
 pub returns : goal.returns
-returns c e =
-    filtered binary32 _ _ (ends _ c.requires.0) (ends _ c.requires.1.0) _ (ends _ c.requires.1.1) (ltb-true _ _ e)
+returns c e = filtered binary32 _ _ (ends _ c.requires.0) (ends _ c.requires.1.0) _ (ends _ c.requires.1.1) (ltb-true _ _ e)

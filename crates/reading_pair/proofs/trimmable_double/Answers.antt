@@ -6,7 +6,6 @@ use Rattle.reading_pair.proofs.trimmable_double.Goals as goal
 pub returns-then-w-mark : goal.returns-then-w-mark
 returns-then-w-mark c = missing_out 52 11 _ _ c.if-w-mark.true
 
--- The mark first, then the magnitude.
 pub returns : goal.returns
 unfolding magnitude infinity
 returns c = present_by_magnitude 52 11 _ _ c.if-w-mark.false

@@ -6,7 +6,6 @@ use Rattle.reading_pair.proofs.trimmable_single.Goals as goal
 pub returns-then-w-mark : goal.returns-then-w-mark
 returns-then-w-mark c = missing_out 23 8 _ _ c.if-w-mark.true
 
--- The mark first, then the magnitude.
 pub returns : goal.returns
 unfolding magnitude infinity
 returns c = present_by_magnitude 23 8 _ _ c.if-w-mark.false

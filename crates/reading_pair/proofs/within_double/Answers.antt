@@ -9,7 +9,6 @@ use Rattle.reading_pair.specs.Limit.{finite_or0}
 use Rattle.reading_pair.proofs.Pairs.{chosen_finite, near_pair}
 use Rattle.reading_pair.proofs.within_double.Goals as goal
 
--- With one sign, what is near is not beyond.
 ends : (w m : ℕ) → m ≡ finite_or0 52 11 w → m < 0x7ff0000000000000
 unfolding infinity
 ends w m e = rw e (chosen_finite 52 11 w (omega arith))
@@ -23,6 +22,4 @@ near_double-requires c = (ends _ _ c.finite_double.ensures, (ends _ _ c.finite_d
 pub returns : goal.returns
 unfolding sign
 returns c e mark q h =
-    let second = c in
-    let first = second in
-    near_pair 52 11 mark q _ _ _ _ _ first.if-w-v.false first.finite_double.ensures second.finite_double-2.ensures (c.near_double.ensures e) h
+    near_pair 52 11 mark q _ _ _ _ _ c.if-w-v.false c.finite_double.ensures c.finite_double-2.ensures (c.near_double.ensures e) h

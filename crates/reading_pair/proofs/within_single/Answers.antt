@@ -9,7 +9,6 @@ use Rattle.reading_pair.specs.Limit.{finite_or0}
 use Rattle.reading_pair.proofs.Pairs.{chosen_finite, near_pair}
 use Rattle.reading_pair.proofs.within_single.Goals as goal
 
--- With one sign, what is near is not beyond.
 ends : (w m : ℕ) → m ≡ finite_or0 23 8 w → m < 0x7f800000
 unfolding infinity
 ends w m e = rw e (chosen_finite 23 8 w (omega arith))
@@ -23,6 +22,4 @@ near_single-requires c = (ends _ _ c.finite_single.ensures, (ends _ _ c.finite_s
 pub returns : goal.returns
 unfolding sign
 returns c e mark q h =
-    let second = c in
-    let first = second in
-    near_pair 23 8 mark q _ _ _ _ _ first.if-w-v.false first.finite_single.ensures second.finite_single-2.ensures (c.near_single.ensures e) h
+    near_pair 23 8 mark q _ _ _ _ _ c.if-w-v.false c.finite_single.ensures c.finite_single-2.ensures (c.near_single.ensures e) h

@@ -3,7 +3,6 @@ use Rattle.std.proofs.Common.{le-ltb, lt-ltb}
 use Rattle.meaning.specs.Readings.{infinity}
 use Rattle.single.proofs.below_single.Goals as goal
 
--- The test's value, on either way.
 pub returns-then-m-lt2139095040 : goal.returns-then-m-lt2139095040
 unfolding infinity
 returns-then-m-lt2139095040 c = simp (lt-ltb _ _ c.if-m-lt2139095040.true)

@@ -35,10 +35,9 @@ unfolding magnitude over
 returns c =
     let s = c.args in
     let m = s.x % 2 ^ 31 in
-    let g = c in
-    let same = finite_or_zero m (infinity 23 8) g.below_single-a.result g.below_single-a.ensures in
+    let same = finite_or_zero m (infinity 23 8) c.below_single-a.result c.below_single-a.ensures in
     c.settle_single.ensures
-    ∙ settled_by_lem 23 8 (absolute s.q) s.mark s.x g.coarse_single-step.result.magnitude g.coarse_single-step.result.clipped c.below_single-z.result
-    (λ f. g.coarse_single-step.ensures.magnitude ∙ ap (λ (a : ℕ). new_magnitude 23 8 (absolute s.q) 0 a) (same f))
-    (λ f. g.coarse_single-step.ensures.clipped ∙ ap (λ (a : ℕ). cond (clips 23 8 (absolute s.q) a) 1 0) (same f))
+    ∙ settled_by_lem 23 8 (absolute s.q) s.mark s.x c.coarse_single-step.result.magnitude c.coarse_single-step.result.clipped c.below_single-z.result
+    (λ f. c.coarse_single-step.ensures.magnitude ∙ ap (λ (a : ℕ). new_magnitude 23 8 (absolute s.q) 0 a) (same f))
+    (λ f. c.coarse_single-step.ensures.clipped ∙ ap (λ (a : ℕ). cond (clips 23 8 (absolute s.q) a) 1 0) (same f))
     c.below_single-z.ensures

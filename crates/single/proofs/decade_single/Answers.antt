@@ -2,7 +2,6 @@
 use Rattle.std.proofs.Common.{le-ltb, lt-ltb}
 use Rattle.single.proofs.decade_single.Goals as goal
 
--- The test's value, on either way.
 pub returns-then-m-limit : goal.returns-then-m-limit
 returns-then-m-limit c = simp (lt-ltb _ _ c.if-m-limit.true)
 

@@ -20,9 +20,8 @@ any c =
 -- what comes back is finite
 back : (c : After-halfshave_single-h) → c.halfshave_single-h.result < infinity 23 8
 back c =
-    let s = c in
     subst (λ (n : ℕ). n < infinity 23 8) (sym (c.halfshave_single-h.ensures ∙ sym c.single_tail-t.ensures.1))
-    (new_below 23 8 (digits s.args.n) s.requires.0.0 0 c.choose_single-a.result (any c.before.before).1)
+    (new_below 23 8 (digits c.args.n) c.requires.0.0 0 c.choose_single-a.result (any c.before.before).1)
 
 below : (c : After-choose_single-k) → c.choose_single-k.result < infinity 23 8
 below c =
@@ -31,7 +30,7 @@ below c =
 
 pub single_tail-t-requires : goal.single_tail-t-requires
 unfolding infinity
-single_tail-t-requires c = let s = c in ((any (goal.at.single_tail-t-requires c).After-choose_single-a).0, (any (goal.at.single_tail-t-requires c).After-choose_single-a).1, s.requires.0.0, s.requires.0.1, s.requires.1)
+single_tail-t-requires c = let a = any (goal.at.single_tail-t-requires c).After-choose_single-a in (a.0, a.1, c.requires.0.0, c.requires.0.1, c.requires.1)
 
 pub halfshave_single-h-requires : goal.halfshave_single-h-requires
 halfshave_single-h-requires c = (any (goal.at.halfshave_single-h-requires c).After-choose_single-a, c.single_tail-t.ensures.0)

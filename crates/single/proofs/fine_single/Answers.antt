@@ -36,10 +36,9 @@ unfolding magnitude over
 returns c =
     let s = c.args in
     let m = s.x % 2 ^ 31 in
-    let g = c in
-    let same = finite_or_zero m (infinity 23 8) g.below_single-a.result g.below_single-a.ensures in
+    let same = finite_or_zero m (infinity 23 8) c.below_single-a.result c.below_single-a.ensures in
     c.settle_single.ensures
-    ∙ settled_by_lem 23 8 (absolute s.q) s.mark s.x g.fine_single-n.result 0 c.below_single-z.result
-    (λ f. g.fine_single-n.ensures ∙ ap (λ (a : ℕ). new_magnitude 23 8 (absolute s.q) 0 a) (same f))
+    ∙ settled_by_lem 23 8 (absolute s.q) s.mark s.x c.fine_single-n.result 0 c.below_single-z.result
+    (λ f. c.fine_single-n.ensures ∙ ap (λ (a : ℕ). new_magnitude 23 8 (absolute s.q) 0 a) (same f))
     (λ f. rw (never_clips 23 8 s.q m (omega arith) f) refl)
     c.below_single-z.ensures

@@ -1,5 +1,5 @@
 -- A quotient times its divisor is no larger than the dividend.
-use Rattle.std.proofs.Common.{div-mul-le_self, arith, rules}
+use Rattle.std.proofs.Common.{div-mul-le_self, arith}
 use Rattle.single.proofs.floor_single.Goals as goal
 
 pub overflow_mul-result : goal.overflow_mul-result

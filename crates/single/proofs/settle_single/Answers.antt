@@ -7,7 +7,6 @@ use Rattle.reading.proofs.Rose.{rose_word}
 use Rattle.single.proofs.settle_single.Goals as goal
 use Rattle.single.proofs.settle_single.Goals.{After-wrapping_sub_u32-p, After-wrapping_sub_u32-y}
 
--- The two patterns by `lost`, the rise by `rose_word`; each other choice is what the definition says.
 -- a difference, the other way round
 back : (a b x : ℕ) → (a + b) % 2 ^ 32 ≡ x → (b + a) % 2 ^ 32 ≡ x
 back a b x e = ap (λ (y : ℕ). y % 2 ^ 32) (add_comm b a) ∙ e

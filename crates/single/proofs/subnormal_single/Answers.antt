@@ -4,7 +4,6 @@ use Rattle.meaning.specs.Readings.{magnitude}
 use Rattle.single.specs.Left.{subnormal}
 use Rattle.single.proofs.subnormal_single.Goals as goal
 
--- The tests' values, on each way.
 pub returns-then-m-eq0 : goal.returns-then-m-eq0
 unfolding subnormal magnitude
 returns-then-m-eq0 c = simp (eq-eqb _ _ c.if-m-eq0.true)

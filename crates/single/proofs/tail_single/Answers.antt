@@ -19,15 +19,16 @@ words c = c.settle_single.ensures ∙ simp (c.below_single-z.ensures, c.unless_z
 pub overflow_sub-s : goal.overflow_sub-s
 overflow_sub-s c = omega (arith, and_le_l c.args.x c.args.tail.ones)
 
--- The words are those of `tail_word`; the cut and the new tail have room.
 pub overflow_add-y : goal.overflow_add-y
 overflow_add-y c =
-    let s = c in
-    let t = s.args.tail.bits in
-    let ones = s.requires.0.is_ones in
+    let t = c.args.tail.bits in
+    let ones = c.requires.0.is_ones in
     let few : c.unless_zero.result < 2 ^ t = omega (arith, c.unless_zero.ensures.most, ones, pow_pos t) in
-    omega (arith, mask_cut t s.args.x s.args.tail.ones ones, floor_room 32 t s.args.x c.unless_zero.result (omega arith) (search rules) few)
+    omega (arith, mask_cut t c.args.x c.args.tail.ones ones, floor_room 32 t c.args.x c.unless_zero.result (omega arith) (search rules) few)
 
 pub returns : goal.returns
 returns c =
-    let s = c in record {result = words (goal.at.returns c).After-settle_single ∙ settled_tail_lem 23 8 (constants_of s.args.tail) s.requires.0 s.args.mark s.args.x s.args.add; words = words (goal.at.returns c).After-settle_single; }
+    record {
+      result = words (goal.at.returns c).After-settle_single ∙ settled_tail_lem 23 8 (constants_of c.args.tail) c.requires.0 c.args.mark c.args.x c.args.add;
+      words = words (goal.at.returns c).After-settle_single;
+    }

@@ -1,14 +1,9 @@
 -- Part after part, by the walk's laws.
-use borrow.Author.Rules.{rules}
 use Prim.Native.Nat.{◌+◌, ◌-◌}
 use native.Mathlib.Omega.{arith}
 use lib.ListN.{length, take, drop, length-take}
-use Rattle.asking.specs.Asked.{method_by}
-use Rattle.reading.specs.Left.{settled_by}
-use Rattle.loops.specs.Tallies.{totals_of}
-use Rattle.loops.specs.Walk.{stays}
 use Rattle.loops.proofs.Tallies.{one_by, few_wider}
-use Rattle.loops.proofs.Walks.{Walk, begin, few_part, part, end}
+use Rattle.loops.proofs.Walks.{begin, few_part, part, end}
 use Rattle.loops.proofs.Methods.{stays_at}
 use Rattle.singles.proofs.all_singles.Goals as goal
 
@@ -46,5 +41,6 @@ loop-a-preserved c =
     part at.invariant k (omega (arith, n.ensures)) (omega arith) c.plain_singles-sums.ensures.content c.plain_singles-sums.ensures.sums c.join-totals.ensures (stays_at 0 ws (length ws))
 
 pub returns : goal.returns
-returns c = let it = end c.loop-a.invariant (omega arith) in
-    record { sums = it.0; content = it.1; }
+returns c =
+    let it = end c.loop-a.invariant (omega arith) in
+    record { sums = it.0; content = it.1 }

@@ -1,14 +1,10 @@
-use borrow.Author.Rules.{rules}
-use Prim.Native.Nat.{◌+◌, ◌-◌}
-use native.Mathlib.Omega.{arith}
-use lib.ListN.{length, take, drop, length-take}
+use Prim.Native.Nat.{◌-◌}
+use lib.ListN.{length}
 use Rattle.asking.specs.Asked.{method_by}
 use Rattle.reading.specs.Left.{settled_by}
 use Rattle.loops.specs.Tallies.{totals_of}
 use Rattle.loops.specs.Walk.{stays}
-use Rattle.loops.proofs.Tallies.{one_by, few_wider}
-use Rattle.loops.proofs.Walks.{Walk, begin, few_part, part, end}
-use Rattle.loops.proofs.Methods.{stays_at}
+use Rattle.loops.proofs.Walks.{Walk}
 use Rattle.singles.proofs.all_singles.Given as goal
 
 -- Part after part, by the walk's laws.

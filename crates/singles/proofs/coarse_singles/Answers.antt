@@ -1,15 +1,9 @@
 -- The walk's laws at each turn.
-use borrow.Author.Rules.{rules}
 use mathlib.Core.Path.{refl}
-use Prim.Native.Nat.{◌-◌}
 use native.Mathlib.Omega.{arith}
-use lib.ListN.{length}
 use Rattle.meaning.specs.Methods.{absolute}
-use Rattle.reading.specs.Left.{settled_by}
-use Rattle.loops.specs.Tallies.{sums_of}
-use Rattle.loops.specs.Walk.{stays}
 use Rattle.loops.proofs.Tallies.{one_by}
-use Rattle.loops.proofs.Walks.{Walk, begin, room, step, end}
+use Rattle.loops.proofs.Walks.{begin, room, step, end}
 use Rattle.singles.proofs.coarse_singles.Goals as goal
 
 pub loop-i-init : goal.loop-i-init
@@ -22,5 +16,6 @@ pub loop-i-preserved : goal.loop-i-preserved
 loop-i-preserved c = step c.loop-i.invariant (omega arith) c.coarse_single-one.ensures c.plus-sums.ensures refl
 
 pub returns : goal.returns
-returns c = let it = end c.loop-i.invariant (omega arith) in
-    record { sums = it.0; content = it.1; }
+returns c =
+    let it = end c.loop-i.invariant (omega arith) in
+    record { sums = it.0; content = it.1 }

@@ -1,5 +1,4 @@
 -- Either loop makes the same of the part.
-use borrow.Author.Rules.{rules}
 use Rattle.singles.proofs.digits_part.Goals as goal
 
 pub field_singles-requires : goal.field_singles-requires

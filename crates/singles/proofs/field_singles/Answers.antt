@@ -1,16 +1,10 @@
 -- The walk's laws at each turn. The readings that are left are not subnormal.
-use borrow.Author.Rules.{rules}
 use mathlib.Core.Path.{refl}
-use Prim.Native.Nat.{◌-◌}
 use native.Mathlib.Omega.{arith}
-use lib.ListN.{length}
 use Rattle.meaning.specs.Methods.{digits}
-use Rattle.reading.specs.Left.{settled_by}
-use Rattle.loops.specs.Tallies.{sums_of}
-use Rattle.loops.specs.Walk.{stays}
 use Rattle.loops.proofs.Tallies.{one_by}
-use Rattle.loops.proofs.Walks.{Walk, begin, room, step, end}
-use Rattle.singles.proofs.Rest.{Rest, rest_turn}
+use Rattle.loops.proofs.Walks.{begin, room, step, end}
+use Rattle.singles.proofs.Rest.{rest_turn}
 use Rattle.singles.proofs.field_singles.Goals as goal
 
 pub loop-i-init : goal.loop-i-init
@@ -31,5 +25,6 @@ loop-i-preserved c =
     (step at.invariant.0 (omega arith) c.field_single-one.ensures c.plus-sums.ensures refl, rest_turn at.readings at.i c.field_single-one.result.pattern at.invariant.1)
 
 pub returns : goal.returns
-returns c = let it = end c.loop-i.invariant.0 (omega arith) in
-    record { sums = it.0; content = it.1; }
+returns c =
+    let it = end c.loop-i.invariant.0 (omega arith) in
+    record { sums = it.0; content = it.1 }

@@ -6,15 +6,13 @@ use Rattle.loops.proofs.Methods.{suits_tail, suits_keep, add_fits, by_tail, by_r
 use Rattle.singles.proofs.plain_single.Goals as goal
 use Rattle.singles.proofs.plain_single.Goals.{Else-job-eq4}
 
--- By the method's number, each outcome is the method's.
 -- what is left are methods 0 to 3
 low : (c : Else-job-eq4) → c.args.job.method < 4
 low c =
-    let s = c in
     let six = c.if-job-eq6.false in
     let five = c.if-job-eq5.false in
     let four = c.if-job-eq4.false in
-    omega (arith, s.requires.0.fitting.known)
+    omega (arith, c.requires.0.fitting.known)
 
 pub digit_single-requires : goal.digit_single-requires
 digit_single-requires c =
@@ -37,20 +35,17 @@ rounded_single-requires c = suits_tail c.requires.0
 
 pub returns-then-job-eq4 : goal.returns-then-job-eq4
 returns-then-job-eq4 c =
-    let s = c in
     let four = c.if-job-eq4.true in
-    let m : s.args.job.method ≤ 4 = omega arith in
-    c.rounded_single.ensures ∙ by_round 23 8 s.args.mark s.args.job.method s.args.job.n (suits_keep s.requires.0 m) (s.requires.0.fitting.keep m) four s.args.x
+    let m : c.args.job.method ≤ 4 = omega arith in
+    c.rounded_single.ensures ∙ by_round 23 8 c.args.mark c.args.job.method c.args.job.n (suits_keep c.requires.0 m) (c.requires.0.fitting.keep m) four c.args.x
 
 pub tail_single-requires : goal.tail_single-requires
 tail_single-requires c =
-    let s = c in
-    let tail = suits_tail s.requires.0 in
-    (tail, subst (λ (a : ℕ). a ≤ s.args.job.tail.ones) (sym c.add_single-add.ensures) (add_fits s.args.job.method tail))
+    let tail = suits_tail c.requires.0 in
+    (tail, subst (λ (a : ℕ). a ≤ c.args.job.tail.ones) (sym c.add_single-add.ensures) (add_fits c.args.job.method tail))
 
 pub returns : goal.returns
 returns c =
-    let s = c in
     let m = low (goal.at.returns c).Else-job-eq4 in
     c.tail_single.ensures.result
-    ∙ by_tail 23 8 s.args.mark s.args.job.method s.args.job.n (suits_keep s.requires.0 (omega (arith, m))) m s.requires.1 c.add_single-add.ensures s.args.x
+    ∙ by_tail 23 8 c.args.mark c.args.job.method c.args.job.n (suits_keep c.requires.0 (omega (arith, m))) m c.requires.1 c.add_single-add.ensures c.args.x

@@ -1,5 +1,4 @@
 -- With no tail nothing is added.
-use borrow.Author.Rules.{rules}
 use mathlib.Core.Path.{◌∙◌}
 use Rattle.loops.proofs.Methods.{by_none}
 use Rattle.singles.proofs.rounded_single.Goals as goal

@@ -1,8 +1,7 @@
 -- The count's law at each turn.
-use Prim.Native.Nat.{◌-◌, ◌≤◌}
 use native.Mathlib.Omega.{arith}
-use lib.ListN.{length, get_or}
-use Rattle.singles.proofs.Rest.{Found, few_subnormal, found_turn}
+use lib.ListN.{get_or}
+use Rattle.singles.proofs.Rest.{few_subnormal, found_turn}
 use Rattle.singles.proofs.subnormal_singles.Goals as goal
 
 pub loop-i-init : goal.loop-i-init
@@ -14,8 +13,7 @@ overflow_add-found c =
 
 pub loop-i-preserved : goal.loop-i-preserved
 loop-i-preserved c =
-    let at = c in
-    (omega arith, found_turn at.args.readings.now at.loop-i.i at.loop-i.found c.subnormal_single-found.result c.subnormal_single-found.ensures at.loop-i.invariant.1)
+    (omega arith, found_turn c.args.readings.now c.loop-i.i c.loop-i.found c.subnormal_single-found.result c.subnormal_single-found.ensures c.loop-i.invariant.1)
 
 pub returns : goal.returns
 returns c z k h = c.loop-i.invariant.1.1 z k (omega (arith, c.loop-i-test.false))

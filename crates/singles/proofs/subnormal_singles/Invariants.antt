@@ -1,7 +1,6 @@
 use Prim.Native.Nat.{◌-◌, ◌≤◌}
-use native.Mathlib.Omega.{arith}
-use lib.ListN.{length, get_or}
-use Rattle.singles.proofs.Rest.{Found, few_subnormal, found_turn}
+use lib.ListN.{length}
+use Rattle.singles.proofs.Rest.{Found}
 use Rattle.singles.proofs.subnormal_singles.Given as goal
 
 -- The count's law at each turn.

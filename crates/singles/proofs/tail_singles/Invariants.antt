@@ -1,13 +1,9 @@
-use borrow.Author.Rules.{rules}
-use mathlib.Core.Path.{refl}
 use Prim.Native.Nat.{◌-◌}
-use native.Mathlib.Omega.{arith}
 use lib.ListN.{length}
 use Rattle.reading.specs.Left.{settled_tail}
 use Rattle.loops.specs.Tallies.{sums_of}
 use Rattle.loops.specs.Walk.{stays}
-use Rattle.loops.proofs.Tallies.{one_tail}
-use Rattle.loops.proofs.Walks.{Walk, begin, room, step, end}
+use Rattle.loops.proofs.Walks.{Walk}
 use Rattle.singles.proofs.tail_singles.Given as goal
 
 -- The walk's laws at each turn.

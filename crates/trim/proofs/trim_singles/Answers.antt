@@ -1,5 +1,4 @@
 -- Refused or accepted, by the laws of `Calls`.
-use borrow.Author.Rules.{rules}
 use mathlib.Core.Path.{ap, ◌∙◌}
 use lib.IntN.{ℤ}
 use mir.Facts.{to_z-of_z}
@@ -12,41 +11,37 @@ use Rattle.trim.proofs.trim_singles.Goals as goal
 pub returns-then-asked-ne0 : goal.returns-then-asked-ne0
 unfolding answer_of
 returns-then-asked-ne0 c =
-    let s = c in
     let a = c.ask_single-asked in
-    let it = refused_call 23 8 s.args.method s.args.setting s.args.mark s.args.readings.now a.result.refusal c.if-asked-ne0.true
-    (a.ensures.refusal ∙ ap (λ (z : ℤ). refusal_of 23 8 s.args.method z) (to_z-of_z s.ranges.setting)) in
-    record { answer = it.0; content = it.1; }
+    let it = refused_call 23 8 c.args.method c.args.setting c.args.mark c.args.readings.now a.result.refusal c.if-asked-ne0.true
+    (a.ensures.refusal ∙ ap (λ (z : ℤ). refusal_of 23 8 c.args.method z) (to_z-of_z c.ranges.setting)) in
+    record { answer = it.0; content = it.1 }
 
 pub method_singles-sums-requires : goal.method_singles-sums-requires
 method_singles-sums-requires c =
-    let s = c in
     let a = c.ask_single-asked in
     let none = c.if-asked-ne0.false in
-    single_fitting s.args.method s.args.setting a.result.refusal a.result.number
-    (a.ensures.refusal ∙ ap (λ (z : ℤ). refusal_of 23 8 s.args.method z) (to_z-of_z s.ranges.setting)) none
-    (a.ensures.number ∙ ap (λ (z : ℤ). asked_number 23 8 s.args.method z) (to_z-of_z s.ranges.setting))
+    single_fitting c.args.method c.args.setting a.result.refusal a.result.number
+    (a.ensures.refusal ∙ ap (λ (z : ℤ). refusal_of 23 8 c.args.method z) (to_z-of_z c.ranges.setting)) none
+    (a.ensures.number ∙ ap (λ (z : ℤ). asked_number 23 8 c.args.method z) (to_z-of_z c.ranges.setting))
 
 pub counted-requires : goal.counted-requires
 counted-requires c =
-    let s = c in
     let a = c.ask_single-asked in
     let none = c.if-asked-ne0.false in
     let m = c.method_singles-sums in
-    fewer_sums 23 8 s.args.method s.args.setting s.args.mark a.result.refusal a.result.number
-    (a.ensures.refusal ∙ ap (λ (z : ℤ). refusal_of 23 8 s.args.method z) (to_z-of_z s.ranges.setting)) none
-    (a.ensures.number ∙ ap (λ (z : ℤ). asked_number 23 8 s.args.method z) (to_z-of_z s.ranges.setting))
-    s.args.readings.now (totals_of m.result) m.ensures.sums
+    fewer_sums 23 8 c.args.method c.args.setting c.args.mark a.result.refusal a.result.number
+    (a.ensures.refusal ∙ ap (λ (z : ℤ). refusal_of 23 8 c.args.method z) (to_z-of_z c.ranges.setting)) none
+    (a.ensures.number ∙ ap (λ (z : ℤ). asked_number 23 8 c.args.method z) (to_z-of_z c.ranges.setting))
+    c.args.readings.now (totals_of m.result) m.ensures.sums
 
 pub returns : goal.returns
 returns c =
-    let s = c in
     let a = c.ask_single-asked in
     let none = c.if-asked-ne0.false in
     let m = c.method_singles-sums in
     let call =
-    accepted_call 23 8 s.args.method s.args.setting s.args.mark a.result.refusal a.result.number
-    (a.ensures.refusal ∙ ap (λ (z : ℤ). refusal_of 23 8 s.args.method z) (to_z-of_z s.ranges.setting)) none
-    (a.ensures.number ∙ ap (λ (z : ℤ). asked_number 23 8 s.args.method z) (to_z-of_z s.ranges.setting))
-    s.args.readings.now (totals_of m.result) m.ensures.sums m.new.readings m.ensures.content in
-    record {answer = c.counted.ensures ∙ call.0; content = call.1; }
+    accepted_call 23 8 c.args.method c.args.setting c.args.mark a.result.refusal a.result.number
+    (a.ensures.refusal ∙ ap (λ (z : ℤ). refusal_of 23 8 c.args.method z) (to_z-of_z c.ranges.setting)) none
+    (a.ensures.number ∙ ap (λ (z : ℤ). asked_number 23 8 c.args.method z) (to_z-of_z c.ranges.setting))
+    c.args.readings.now (totals_of m.result) m.ensures.sums m.new.readings m.ensures.content in
+    record { answer = c.counted.ensures ∙ call.0; content = call.1 }

@@ -1,4 +1,4 @@
--- Each sum is that of the part, with the reading’s.
+-- Each sum has room for one more.
 use mathlib.Core.Path.{refl}
 use Rattle.loops.specs.Tallies.{plus}
 use Rattle.loops.proofs.Sums.plus.Goals as goal

@@ -1,4 +1,4 @@
--- Each sum is the part's and the reading's.
+-- Each sum has room for the part's.
 use mathlib.Core.Path.{refl}
 use borrow.Author.Rules.{rules}
 use Rattle.loops.specs.Tallies.{plus}

@@ -1,4 +1,4 @@
--- Each sum is the part's and the reading's.
+-- Each sum has room for one more.
 use mathlib.Core.Path.{refl}
 use Rattle.loops.specs.Tallies.{plus}
 use Rattle.loops.proofs.Totals.plus.Goals as goal
