@@ -16,7 +16,7 @@ import sys
 # A name as a proof file has it, beside comments, texts and what stands between « and ».
 TOKEN = re.compile(r"--[^\n]*|«[^»]*»|[^\s(){}.;,@\"«»\[\]\\]+")
 RUST = re.compile(r"//[^\n]*|b?\"(?:[^\"\\]|\\.)*\"|b?'(?:[^'\\]|\\.)'|[^\s(){}.;,@\"\[\]\\']+'*")
-DECLARED = re.compile(r"^\s*(?:(?:unfoldable|abbrev|pub) )*([^\s(){}\[\]:;,]+) : (.*)")
+DECLARED = re.compile(r"^\s*(?:(?:unfoldable|abbrev|pub) )*([^\s(){}\[\]:;,]+) :(?:$| )")
 QUOTED = re.compile(r"`([^`\n]*)`")
 NAME = re.compile(r"[^\s(){}.;,@\"«»\[\]\\`:]+")
 

@@ -11,7 +11,7 @@ call_of m s = record { method = m; setting = s }
 abbrev pub calls_of : List ℕ → List ℤ → List Call
 calls_of ms ss = zip_with call_of ms ss
 
--- The three clauses of ListClaim, which speaks of inTurn, about two arrays.
+-- The three clauses of ListClaim, which speaks of in_turn, about two arrays.
 pub record Promised (F X : ℕ) (cs : List Call) (mark : ℕ) (before after : List ℕ) : Type 0 where
   -- "a list with no accepted call leaves the array as it was"
   pub none_accepted : accepted_calls F X cs ≡ [] → after ≡ before

@@ -5,7 +5,7 @@ use Rattle.meaning.specs.Questions.{Outcome, accepted}
 use Rattle.meaning.specs.Calls.{Call, accepted_calls}
 use Rattle.meaning.specs.Claim.{one_kind, Coded, LeastHolding, layer_at}
 
--- The clauses of PackClaim, which speaks of inTurn and pack, about arrays; the layers are those of the readings as the list left them.
+-- The clauses of PackClaim, which speaks of in_turn and pack, about arrays; the layers are those of the readings as the list left them.
 pub record CodesPromised (cs : List Call) (mark : ℕ) (before after : List ℕ) (L : ℕ) (widths codes references : List ℕ) (exponents : List ℤ) : Type 0 where
   pub widths_long : length widths ≡ length before / L
   pub codes_long : length codes ≡ length before

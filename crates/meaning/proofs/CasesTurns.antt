@@ -32,7 +32,7 @@ pub record Turns : Type 0 where
   begins_anew : after_all 23 8 0x7CF00000 (groom 11 ∷ groom 7 ∷ []) (0x7CF00000 ∷ 0x40490FDB ∷ 0x40490FDB ∷ []) ≡ 0x7CF00000 ∷ 0x40490000 ∷ 0x4049FFFF ∷ []
   mixed : after_all 23 8 0x7CF00000 (set 11 ∷ groom 7 ∷ shave 9 ∷ halfshave 7 ∷ []) (0x7F800000 ∷ 0x40490FDB ∷ 0x40490FDB ∷ []) ≡ 0x7F800000 ∷ 0x40498000 ∷ 0x40498000 ∷ []
   -- ---- doubles
-  doubles-take :
+  doubles_take :
       after_all 52 11 0x7FF80000_00000000 (groom 20 ∷ []) (0x400921FB_54442D18 ∷ 0x7FF80000_00000000 ∷ 0 ∷ 0x400921FB_54442D18 ∷ 0xFFF00000_00000000 ∷ 0x400921FB_54442D18 ∷ [])
       ≡ 0x400921FB_00000000 ∷ 0x7FF80000_00000000 ∷ 0 ∷ 0x400921FB_00000000 ∷ 0xFFF00000_00000000 ∷ 0x400921FB_FFFFFFFF ∷ []
   -- ---- the loader is told the turn, of which the parity matters, also beyond 2^32; before the pattern stands 4 for a fall, 2 for a rise
@@ -59,7 +59,7 @@ turns_cases =
       zero_mark_idle = refl;
       begins_anew = refl;
       mixed = refl;
-      doubles-take = refl;
+      doubles_take = refl;
       loader_first = (refl, refl);
       loader_next = (refl, refl);
       loader_last = (refl, refl);

@@ -13,7 +13,7 @@ attained =
     record {
       shave_whole = refl;
       set_whole = refl;
-      groom-whole = (refl, refl);
+      groom_whole = (refl, refl);
       halfshave_half = refl;
       round_half = refl;
       absolute_half = refl;
@@ -21,8 +21,8 @@ attained =
       absolute_clipped = (refl, refl);
       halfshave_relative = refl;
       digits_half = refl;
-      pack-half = refl;
-      pack-half-narrow = refl;
+      pack_half = refl;
+      pack_half_narrow = refl;
     }
 
 pub left_cases : LeftCases
@@ -31,7 +31,7 @@ left_cases = record { round_grows = (refl, refl); shave_more = lit< tt; clipped_
 
 pub pi_tables : PiTables
 unfolding after_all
-pi_tables = record { table_1_of_001 = refl; table-2-of-001 = refl; table_1_of_002 = refl; table-2-of-002 = refl }
+pi_tables = record { table_1_of_001 = refl; table_2_of_001 = refl; table_1_of_002 = refl; table_2_of_002 = refl }
 
 pub subnormal : Subnormal
 unfolding after_all moved

@@ -32,7 +32,7 @@ pub record Attained : Type 0 where
   -- 7 keep bits: a tail of ones shaved, and a tail of zeros set, move by a unit less one spacing; groom does both, at turns 0 and 1
   pub shave_whole : by (tail shave 7) 0 0x3F80FFFF + spacing_at 0x3F80FFFF ≡ unit_at (tail shave 7) 0x3F80FFFF
   pub set_whole : by (tail set 7) 0 0x3F800000 + spacing_at 0x3F800000 ≡ unit_at (tail set 7) 0x3F800000
-  pub groom-whole :
+  pub groom_whole :
       (by (tail groom 7) 0 0x3F80FFFF + spacing_at 0x3F80FFFF ≡ unit_at (tail groom 7) 0x3F80FFFF)
       × (by (tail groom 7) 1 0x3F800000 + spacing_at 0x3F800000 ≡ unit_at (tail groom 7) 0x3F800000)
   -- 1 halfshaved, and the tie 3F808000 rounded, move by half a unit
@@ -50,9 +50,9 @@ pub record Attained : Type 0 where
   -- 3 to one digit, where q is 1, moves by half of it (002, equation 2)
   pub digits_half : 2 * by (digits 1) 0 0x40400000 ≡ digit_step 23 8 1 0x40400000
   -- in the layer 00000000, 0000FFFF of width 16 (P12) the larger reading's code lies half a step from it; so it does in 00000000, 00000003 of width 2
-  pub pack-half :
+  pub pack_half :
       2 * distance (position 23 8 0x0000FFFF) (meaning_at 0x7CF00000 16 (0x00000000 ∷ 0x0000FFFF ∷ []) 1) ≡ 2 ^ (layer 0x7CF00000 16 (0x00000000 ∷ 0x0000FFFF ∷ [])).exponent
-  pub pack-half-narrow :
+  pub pack_half_narrow :
       2 * distance (position 23 8 0x00000003) (meaning_at 0x7CF00000 2 (0x00000000 ∷ 0x00000003 ∷ []) 1) ≡ 2 ^ (layer 0x7CF00000 2 (0x00000000 ∷ 0x00000003 ∷ [])).exponent
 
 -- With the unit at the figure left, with 7 keep bits
@@ -68,13 +68,13 @@ pub record PiTables : Type 0 where
   -- 001, Table 1: Decimal Rounding to 2 places (the scale 128), Bit Shaving and Bit Setting to 3 digits
   pub table_1_of_001 : left (absolute (149 - 7)) 0x40490FDB ∷ left (tail shave 11) 0x40490FDB ∷ left (tail set 11) 0x40490FDB ∷ [] ≡ 0x40490000 ∷ 0x40490000 ∷ 0x40490FFF ∷ []
   -- 001, Table 2: Bit Grooming to 8, 7 .. 1 digits. The row of 7 has 22 keep bits, where section 2.3's formula would keep all.
-  pub table-2-of-001 :
+  pub table_2_of_001 :
       map (λ k. left (tail groom k) 0x40490FDB) (23 ∷ 22 ∷ 21 ∷ 18 ∷ 15 ∷ 11 ∷ 8 ∷ 5 ∷ [])
       ≡ 0x40490FDB ∷ 0x40490FDA ∷ 0x40490FD8 ∷ 0x40490FC0 ∷ 0x40490F00 ∷ 0x40490000 ∷ 0x40490000 ∷ 0x40480000 ∷ []
   -- 002, Table 1: 15 and 12 bits preserved
   pub table_1_of_002 : map (λ k. left (tail shave k) 0x40490FDB) (15 ∷ 12 ∷ []) ≡ 0x40490F00 ∷ 0x40490800 ∷ []
   -- 002, Table 2: Digit Rounding to 7 .. 1 digits
-  pub table-2-of-002 :
+  pub table_2_of_002 :
       map (λ n. left (digits n) 0x40490FDB) (7 ∷ 6 ∷ 5 ∷ 4 ∷ 3 ∷ 2 ∷ 1 ∷ [])
       ≡ 0x40490FDA ∷ 0x40490FD0 ∷ 0x40490F80 ∷ 0x40490800 ∷ 0x40494000 ∷ 0x404A0000 ∷ 0x40600000 ∷ []
 
