@@ -8,19 +8,9 @@ ghost use Rattle.meaning.specs.Methods.{halfshaved, round, absolute, digits};
 ghost use Rattle.powers.specs.Table.{powers};
 ghost use Rattle.reading.specs.Left.{settled_from, settled_by, settled_tail, takes};
 ghost use Rattle.reading.specs.Tails.{constants, TailOf, tail_word, round_word, round_over};
-ghost use Rattle.double.specs.Left.{settled_of, constants_of};
+ghost use Rattle.reading.specs.Words.{settled_of, constants_of};
 
-// What is left of a double, and numbers of 0 or 1: whether it is changed, whether it or its result is the mark, whether it is clipped, whether it is missing, whether
-// its exact value rose.
-#[derive(Clone, Copy)]
-pub struct Double {
-    pub pattern: u64,
-    pub changed: u64,
-    pub marked: u64,
-    pub clipped: u64,
-    pub missing: u64,
-    pub risen: u64,
-}
+use reading::{Tail, Trimmed};
 
 // `yes` where a and b are equal, `no` where they differ.
 pub fn choose_double(a: u64, b: u64, yes: u64, no: u64) -> u64
@@ -31,7 +21,7 @@ pub fn choose_double(a: u64, b: u64, yes: u64, no: u64) -> u64
 
 // The reading x whose new pattern would be z: x itself where it is missing or z is the mark. `over` is 1 where z is clipped. What x loses wraps around: its top bit is 1
 // where the magnitude grows, a rise above zero; below zero a rise is where the magnitude shrinks.
-pub fn settle_double(x: u64, z: u64, over: u64, mark: u64) -> Double
+pub fn settle_double(x: u64, z: u64, over: u64, mark: u64) -> Trimmed<u64>
     ensures { settled_of result ≡ settled_from 52 11 mark x z over }
 {
     let y = choose_double(x, mark, x, z);
@@ -43,7 +33,7 @@ pub fn settle_double(x: u64, z: u64, over: u64, mark: u64) -> Double
     let missing = choose_double(x, mark, 1, 0);
     let turned = choose_double(x >> 63, less >> 63, 0, 1);
     let risen = changed & turned;
-    Double {
+    Trimmed {
         pattern: p,
         changed,
         marked,
@@ -76,16 +66,8 @@ pub fn below_double(m: u64, yes: u64, no: u64) -> u64
     if m < 0x7ff0_0000_0000_0000 { yes } else { no }
 }
 
-// What methods 0 to 4 need of a tail, worked out once for an array: how many bits it has, all of them ones, and its top bit.
-#[derive(Clone, Copy)]
-pub struct Tail {
-    pub bits: u32,
-    pub ones: u64,
-    pub half: u64,
-}
-
 // The tail under k keep bits.
-pub fn tail_of(k: u32) -> Tail
+pub fn tail_of(k: u32) -> Tail<u64>
     requires { k ≤ 52 }
     ensures { constants_of result ≡ constants 52 k }
 {
@@ -108,7 +90,7 @@ fn unless_zero(m: u64, add: u64) -> u64
 }
 
 // Methods 0 to 3: the tail becomes `add`, and zero stays. The sign stands above every tail, so the whole pattern is cut.
-pub fn tail_double(x: u64, tail: Tail, add: u64, mark: u64) -> Double
+pub fn tail_double(x: u64, tail: Tail<u64>, add: u64, mark: u64) -> Trimmed<u64>
     requires { (TailOf 52 (constants_of tail)) × (add ≤ tail.ones) }
     ensures result { settled_of result ≡ settled_tail 52 11 tail.bits add mark x }
     ensures words { settled_of result ≡ settled_from 52 11 mark x (tail_word 52 11 (constants_of tail) add x) 0 }
@@ -131,7 +113,7 @@ pub fn turn_double(x: u64, bit: u64, mark: u64) -> u64
 
 // Method 4 with a tail, not none: half a unit less one is added to the whole pattern, and one more where the bit above the tail is one; then the tail is cut off, and
 // a unit taken back where that isn't finite.
-pub fn round_double(x: u64, tail: Tail, mark: u64) -> Double
+pub fn round_double(x: u64, tail: Tail<u64>, mark: u64) -> Trimmed<u64>
     requires { (TailOf 52 (constants_of tail)) × (1 ≤ tail.bits) }
     ensures result { settled_of result ≡ settled_by 52 11 (round (52 - tail.bits)) mark 0 x }
     ensures words { settled_of result ≡ settled_from 52 11 mark x (round_word 52 11 (constants_of tail) x) (round_over 52 11 (constants_of tail) x) }
@@ -149,7 +131,7 @@ pub fn round_double(x: u64, tail: Tail, mark: u64) -> Double
 }
 
 // Method 5 with the unit 2^q, in least spacings, for the units that the float adder serves.
-pub fn fine_double(x: u64, q: u64, mark: u64) -> Double
+pub fn fine_double(x: u64, q: u64, mark: u64) -> Trimmed<u64>
     requires { (53 ≤ q) × (q ≤ 2044) }
     ensures { settled_of result ≡ settled_by 52 11 (absolute q) mark 0 x }
 {
@@ -161,7 +143,7 @@ pub fn fine_double(x: u64, q: u64, mark: u64) -> Double
 }
 
 // Method 5 with any unit 2^q.
-pub fn coarse_double(x: u64, q: u64, mark: u64) -> Double
+pub fn coarse_double(x: u64, q: u64, mark: u64) -> Trimmed<u64>
     ensures { settled_of result ≡ settled_by 52 11 (absolute q) mark 0 x }
 {
     let m = x % 0x8000_0000_0000_0000;
@@ -185,7 +167,7 @@ fn halfshave_double(m: u64, t: u32) -> u64
 }
 
 // Method 6 with n digits: method 3 with the tail that the reading's decade gives.
-pub fn digit_double(table: &[u64; 633], x: u64, n: u32, mark: u64) -> Double
+pub fn digit_double(table: &[u64; 633], x: u64, n: u32, mark: u64) -> Trimmed<u64>
     requires { ((1 ≤ n) × (n ≤ 15)) × (table.now ≡ powers) }
     ensures { settled_of result ≡ settled_by 52 11 (digits n) mark 0 x }
 {

@@ -9,19 +9,10 @@ ghost use Rattle.powers.specs.Table.{powers};
 ghost use Rattle.digit_tables.specs.Fields.{Limits, Masks};
 ghost use Rattle.reading.specs.Left.{settled_from, settled_by, settled_tail, takes};
 ghost use Rattle.reading.specs.Tails.{constants, TailOf, tail_word, round_word, round_over};
-ghost use Rattle.single.specs.Left.{settled_of, constants_of, subnormal};
+ghost use Rattle.reading.specs.Words.{settled_of, constants_of};
+ghost use Rattle.single.specs.Left.{subnormal};
 
-// What is left of a single, and numbers of 0 or 1: whether it is changed, whether it or its result is the mark, whether it is clipped, whether it is missing, whether
-// its exact value rose.
-#[derive(Clone, Copy)]
-pub struct Single {
-    pub pattern: u32,
-    pub changed: u32,
-    pub marked: u32,
-    pub clipped: u32,
-    pub missing: u32,
-    pub risen: u32,
-}
+use reading::{Tail, Trimmed};
 
 // `yes` where a and b are equal, `no` where they differ.
 pub fn choose_single(a: u32, b: u32, yes: u32, no: u32) -> u32
@@ -33,7 +24,7 @@ pub fn choose_single(a: u32, b: u32, yes: u32, no: u32) -> u32
 // The reading x whose new pattern would be z: x itself where it is missing or z is the mark. `over` is 1 where z is clipped. What x loses wraps around: its top bit is 1
 // where the magnitude grows, a rise above zero; below zero a rise is where the magnitude shrinks.
 // The new pattern comes from what x loses too: the loops over singles are faster so than by a choice between patterns, as doubles have it.
-pub fn settle_single(x: u32, z: u32, over: u32, mark: u32) -> Single
+pub fn settle_single(x: u32, z: u32, over: u32, mark: u32) -> Trimmed<u32>
     ensures { settled_of result ≡ settled_from 23 8 mark x z over }
 {
     let lost = choose_single(x, mark, 0, std::num::wrapping_sub_u32(x, z));
@@ -46,7 +37,7 @@ pub fn settle_single(x: u32, z: u32, over: u32, mark: u32) -> Single
     let missing = choose_single(x, mark, 1, 0);
     let turned = choose_single(x >> 31, less >> 31, 0, 1);
     let risen = changed & turned;
-    Single {
+    Trimmed {
         pattern: p,
         changed,
         marked,
@@ -79,16 +70,8 @@ pub fn below_single(m: u32, yes: u32, no: u32) -> u32
     if m < 0x7f80_0000 { yes } else { no }
 }
 
-// What methods 0 to 4 need of a tail, worked out once for an array: how many bits it has, all of them ones, and its top bit.
-#[derive(Clone, Copy)]
-pub struct Tail {
-    pub bits: u32,
-    pub ones: u32,
-    pub half: u32,
-}
-
 // The tail under k keep bits.
-pub fn tail_of(k: u32) -> Tail
+pub fn tail_of(k: u32) -> Tail<u32>
     requires { k ≤ 23 }
     ensures { constants_of result ≡ constants 23 k }
 {
@@ -111,7 +94,7 @@ fn unless_zero(m: u32, add: u32) -> u32
 }
 
 // Methods 0 to 3: the tail becomes `add`, and zero stays. The sign stands above every tail, so the whole pattern is cut.
-pub fn tail_single(x: u32, tail: Tail, add: u32, mark: u32) -> Single
+pub fn tail_single(x: u32, tail: Tail<u32>, add: u32, mark: u32) -> Trimmed<u32>
     requires { (TailOf 23 (constants_of tail)) × (add ≤ tail.ones) }
     ensures result { settled_of result ≡ settled_tail 23 8 tail.bits add mark x }
     ensures words { settled_of result ≡ settled_from 23 8 mark x (tail_word 23 8 (constants_of tail) add x) 0 }
@@ -134,7 +117,7 @@ pub fn turn_single(x: u32, bit: u32, mark: u32) -> u32
 
 // Method 4 with a tail, not none: half a unit less one is added to the whole pattern, and one more where the bit above the tail is one; then the tail is cut off, and
 // a unit taken back where that isn't finite.
-pub fn round_single(x: u32, tail: Tail, mark: u32) -> Single
+pub fn round_single(x: u32, tail: Tail<u32>, mark: u32) -> Trimmed<u32>
     requires { (TailOf 23 (constants_of tail)) × (1 ≤ tail.bits) }
     ensures result { settled_of result ≡ settled_by 23 8 (round (23 - tail.bits)) mark 0 x }
     ensures words { settled_of result ≡ settled_from 23 8 mark x (round_word 23 8 (constants_of tail) x) (round_over 23 8 (constants_of tail) x) }
@@ -152,7 +135,7 @@ pub fn round_single(x: u32, tail: Tail, mark: u32) -> Single
 }
 
 // Method 5 with the unit 2^q, in least spacings, for the units that the float adder serves.
-pub fn fine_single(x: u32, q: u32, mark: u32) -> Single
+pub fn fine_single(x: u32, q: u32, mark: u32) -> Trimmed<u32>
     requires { (24 ≤ q) × (q ≤ 252) }
     ensures { settled_of result ≡ settled_by 23 8 (absolute q) mark 0 x }
 {
@@ -164,7 +147,7 @@ pub fn fine_single(x: u32, q: u32, mark: u32) -> Single
 }
 
 // Method 5 with any unit 2^q.
-pub fn coarse_single(x: u32, q: u32, mark: u32) -> Single
+pub fn coarse_single(x: u32, q: u32, mark: u32) -> Trimmed<u32>
     ensures { settled_of result ≡ settled_by 23 8 (absolute q) mark 0 x }
 {
     let m = x % 0x8000_0000;
@@ -188,7 +171,7 @@ fn halfshave_single(m: u32, t: u32) -> u32
 }
 
 // Method 6 with n digits: method 3 with the tail that the reading's decade gives.
-pub fn digit_single(table: &[u64; 633], x: u32, n: u32, mark: u32) -> Single
+pub fn digit_single(table: &[u64; 633], x: u32, n: u32, mark: u32) -> Trimmed<u32>
     requires { ((1 ≤ n) × (n ≤ 7)) × (table.now ≡ powers) }
     ensures { settled_of result ≡ settled_by 23 8 (digits n) mark 0 x }
 {
@@ -221,7 +204,7 @@ fn decade_single(m: u32, limit: u32) -> usize
 }
 
 // Method 6 with n digits on a single that isn't subnormal, by the tables of the exponent fields: the limit says which mask, and the mask's bits become a one and zeros.
-pub fn field_single(limits: &[u32; 256], masks: &[u32; 512], x: u32, n: u32, mark: u32) -> Single
+pub fn field_single(limits: &[u32; 256], masks: &[u32; 512], x: u32, n: u32, mark: u32) -> Trimmed<u32>
     requires { ((1 ≤ n) × (n ≤ 7)) × (Limits limits.now) × (Masks n masks.now) × (subnormal 23 8 x ≡ 0) }
     ensures { settled_of result ≡ settled_by 23 8 (digits n) mark 0 x }
 {

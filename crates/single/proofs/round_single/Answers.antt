@@ -6,7 +6,7 @@ use Rattle.reading.specs.Left.{settled_from}
 use Rattle.reading.specs.Tails.{near_word, round_word, round_over}
 use Rattle.reading.proofs.Tails.{half_positive, settled_round}
 use Rattle.reading.proofs.Wraps.{wrapped}
-use Rattle.single.specs.Left.{settled_of, constants_of}
+use Rattle.reading.specs.Words.{settled_of, constants_of}
 use Rattle.single.proofs.round_single.Goals as goal
 use Rattle.single.proofs.round_single.Goals.{After-settle_single}
 

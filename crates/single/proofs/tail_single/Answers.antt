@@ -6,7 +6,7 @@ use Rattle.reading.specs.Left.{settled_from}
 use Rattle.reading.specs.Tails.{tail_word}
 use Rattle.reading.proofs.Words.{floor_room}
 use Rattle.reading.proofs.Tails.{mask_cut, settled_tail_lem}
-use Rattle.single.specs.Left.{settled_of, constants_of}
+use Rattle.reading.specs.Words.{settled_of, constants_of}
 use Rattle.single.proofs.tail_single.Goals as goal
 use Rattle.single.proofs.tail_single.Goals.{After-settle_single}
 
