@@ -2,7 +2,6 @@
 use Rattle.std.specs.Prelude.{ℕ, ◌+◌, ◌≤◌}
 use Rattle.reading.specs.Left.{Tally}
 use Rattle.loops.specs.declared.Sums.{Sums}
-use Rattle.loops.specs.declared.Totals.{Totals}
 
 abbrev pub none : Tally
 none = record { changed = 0; marked = 0; clipped = 0; missing = 0; risen = 0 }
@@ -17,8 +16,9 @@ pub record Few (t : Tally) (n : ℕ) : Type 0 where
   pub missing_few : t.missing ≤ n
   pub risen_few : t.risen ≤ n
 
-abbrev pub sums_of : Sums → Tally
-sums_of s = record { changed = s.changed; marked = s.marked; clipped = s.clipped; missing = s.missing; risen = s.risen }
+-- the sums of counters of any width; `value` reads one as a number
+abbrev pub sums_at : {C : Type 0} → (C → ℕ) → Sums C → Tally
+sums_at value s = record { changed = value s.changed; marked = value s.marked; clipped = value s.clipped; missing = value s.missing; risen = value s.risen }
 
-abbrev pub totals_of : Totals → Tally
-totals_of s = record { changed = s.changed; marked = s.marked; clipped = s.clipped; missing = s.missing; risen = s.risen }
+abbrev pub totals_of : Sums ℕ → Tally
+totals_of = sums_at (λ n. n)
