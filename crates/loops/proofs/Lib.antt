@@ -3,3 +3,4 @@ pub mod Walks
 pub mod Methods
 pub mod Turns
 pub mod Once
+pub mod Words

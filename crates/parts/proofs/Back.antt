@@ -1,8 +1,9 @@
 -- A part of a slice that was lent on: the slice once the part has come back.
 use Prim.Native.Nat.{ℕ, ◌+◌, ◌-◌, ◌≤◌}
 use native.Mathlib.Omega.{arith}
-use mathlib.Core.Path.{◌≡◌, refl, sym, ap, ◌∙◌}
-use mathlib.Core.List.{List, ◌++◌, append_assoc}
+use mathlib.Core.Path.{◌≡◌, refl, sym, ap, ap₂, ◌∙◌}
+use mathlib.Core.List.{List, ◌++◌, append_assoc, map}
+use Rattle.std.proofs.lemmas.List.{map-append, take-map, drop-map}
 use lib.ListN.{length, take, drop, length-append, length-take, length-drop, take-append-drop}
 use lib.Seq.{take_at, drop_at, drop-drop, take-take, take-add, take-append-le, drop-append-le, length-take-le}
 
@@ -78,3 +79,9 @@ back_apart xs a j b k ys zs e h l =
     ∙ sym (back_front ps (zs ++ drop k qs) a j ys (omega arith))
     ∙ sym (ap (λ us. back us a j ys) (back_behind ps qs b k zs n))
     ∙ ap (λ us. back (back us b k zs) a j ys) (take-append-drop b xs)
+
+-- a part whose elements are read by f
+pub map_back : {A B : Type 0} (f : A → B) (xs : List A) (a k : ℕ) (ys : List A) → map f (back xs a k ys) ≡ back (map f xs) a k (map f ys)
+map_back f xs a k ys =
+    map-append f (take a xs) (ys ++ drop k (drop a xs))
+    ∙ ap₂ (λ (us vs : List _). us ++ vs) (sym (take-map f a xs)) (map-append f ys (drop k (drop a xs)) ∙ ap (λ (vs : List _). map f ys ++ vs) (sym (drop-map f k (drop a xs)) ∙ ap (drop k) (sym (drop-map f a xs))))

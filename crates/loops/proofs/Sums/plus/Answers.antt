@@ -1,5 +1,4 @@
 -- Each sum has room for one more.
-use Rattle.std.proofs.Common.{rules}
 use Rattle.loops.specs.Tallies.{plus}
 use Rattle.loops.proofs.Sums.plus.Goals as goal
 
