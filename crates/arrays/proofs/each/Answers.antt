@@ -32,8 +32,7 @@ loop-reading-preserved g c =
       λ f once leaves. step_at g.W.Word.value at.readings (inv.3 f once leaves) item long (leaves _ _ one.ensures) c.plus-sums.ensures refl,
     )
 
-pub returns-clause-sums : goal.returns-clause-sums
-returns-clause-sums g c f once leaves = (end (c.loop-reading.invariant.3 f once leaves) (simp length-map (omega (arith, c.loop-reading.invariant.0, c.loop-reading-test.false)))).0
-
-pub returns-clause-content : goal.returns-clause-content
-returns-clause-content g c f once leaves = (end (c.loop-reading.invariant.3 f once leaves) (simp length-map (omega (arith, c.loop-reading.invariant.0, c.loop-reading-test.false)))).1
+pub returns : goal.returns
+returns g c f once leaves =
+    let it = end (c.loop-reading.invariant.3 f once leaves) (simp length-map (omega (arith, c.loop-reading.invariant.0, c.loop-reading-test.false))) in
+    record { sums = it.0; content = it.1 }

@@ -5,7 +5,7 @@ use Rattle.reading.specs.Left.{Settled}
 use Rattle.loops.specs.Tallies.{sums_at, Few}
 use Rattle.loops.specs.Walk.{stays}
 use Rattle.loops.proofs.Walks.{Walk}
-use Rattle.arrays.specs.Each.{Leaves, EachOnce}
+use Rattle.arrays.specs.Outcomes.{Leaves, EachOnce}
 use Rattle.arrays.proofs.each.Given as goal
 
 abbrev pub invariant-loop-reading : goal.invariant-loop-reading

@@ -1,0 +1,3 @@
+pub mod Outcomes
+pub mod Rest
+pub mod Others

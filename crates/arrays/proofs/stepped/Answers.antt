@@ -1,0 +1,31 @@
+-- What one reading is left as, all are, by either way.
+use Rattle.std.proofs.Common.{ℕ, rules}
+use Rattle.meaning.specs.Methods.{absolute}
+use Rattle.reading.specs.Left.{settled_by}
+use Rattle.loops.proofs.Tallies.{one_by}
+use Rattle.arrays.proofs.Outcomes.{counts_of}
+use Rattle.arrays.proofs.stepped.Goals as goal
+
+pub each-requires-clause-counted : goal.each-requires-clause-counted
+each-requires-clause-counted g c =
+    let m = g.W.Word in
+    let s = c.args in
+    counts_of m.value (settled_by m.FRACTION m.EXPONENT (absolute s.q) (m.value s.mark) 0) (one_by m.FRACTION m.EXPONENT _ _ _) (λ x r made. search rules)
+
+pub returns-then-q-COARSE : goal.returns-then-q-COARSE
+returns-then-q-COARSE g c =
+    let m = g.W.Word in
+    let s = c.args in
+    c.each.ensures (settled_by m.FRACTION m.EXPONENT (absolute s.q) (m.value s.mark) 0) (one_by m.FRACTION m.EXPONENT _ _ _) (λ x r made. search rules)
+
+pub each-requires-2-clause-counted : goal.each-requires-2-clause-counted
+each-requires-2-clause-counted g c =
+    let m = g.W.Word in
+    let s = c.args in
+    counts_of m.value (settled_by m.FRACTION m.EXPONENT (absolute s.q) (m.value s.mark) 0) (one_by m.FRACTION m.EXPONENT _ _ _) (λ x r made. search rules)
+
+pub returns : goal.returns
+returns g c =
+    let m = g.W.Word in
+    let s = c.args in
+    c.each-2.ensures (settled_by m.FRACTION m.EXPONENT (absolute s.q) (m.value s.mark) 0) (one_by m.FRACTION m.EXPONENT _ _ _) (λ x r made. search rules)
