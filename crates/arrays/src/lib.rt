@@ -11,9 +11,11 @@ ghost use Rattle.reading.specs.Tails.{TailOf};
 ghost use Rattle.reading.specs.Words.{settled_at, constants_at};
 ghost use Rattle.loops.specs.Tallies.{sums_at, totals_of};
 ghost use Rattle.loops.specs.Methods.{Fitting, add_by, keep_of, Suits, Filling, settled_with, next_with};
-ghost use Rattle.arrays.specs.Outcomes.{CountsOnce, Leaves, EachOnce, AllTrimmed};
+ghost use Rattle.arrays.specs.Outcomes.{CountsOnce, Leaves, EachOnce, AllTrimmed, AllTrimmedFrom};
+ghost use Rattle.loops.specs.Walk.{state_at};
 ghost use Rattle.arrays.specs.Subnormal.{NoSubnormal};
 
+use groom::Part;
 use loops::{Sums, Totals};
 use method::Method;
 use reading::{Tail, Trimmed};
@@ -198,4 +200,55 @@ fn all<W: Digits>(readings: &mut [W], job: Job<W>, mark: W) -> Totals
         a = e;
     }
     totals
+}
+
+// An array, or a part of one, where grooming's first turn puts `add` into the tail.
+pub fn part<W: Digits>(readings: &mut [W], job: Job<W>, add: W, mark: W) -> Part<W>
+    requires { (Suits W.FRACTION W.DIGITS (number_of job.method) job.n (constants_at W.value job.tail)) × (Filling (W.value job.tail.ones) (W.value add)) }
+    ensures trimmed { AllTrimmedFrom W.value (next_with W.FRACTION W.EXPONENT (number_of job.method) job.n (W.value mark)) (settled_with W.FRACTION W.EXPONENT (number_of job.method) job.n (W.value mark)) (W.value add) readings.old readings.new (totals_of result.sums) }
+    ensures add { W.value result.add ≡ state_at (next_with W.FRACTION W.EXPONENT (number_of job.method) job.n (W.value mark)) (W.value add) (map W.value readings.old) (length readings.old) }
+{
+    match job.method {
+        Method::Groom => groom::groom(readings, job.tail, add, mark),
+        _ => Part {
+            sums: all(readings, job, mark),
+            add,
+        },
+    }
+}
+
+// An array by a method with a setting that is in its range.
+pub fn by_method<W: Digits>(readings: &mut [W], method: Method, n: u32, mark: W) -> Totals
+    requires { Fitting (number_of method) n W.FRACTION W.DIGITS }
+    ensures { AllTrimmedFrom W.value (turn_after W.FRACTION W.EXPONENT (W.value mark)) (settled_by W.FRACTION W.EXPONENT (method_by (number_of method) n) (W.value mark)) 0 readings.old readings.new (totals_of result) }
+{
+    part(readings, job_of(method, n), W::zero(), mark).sums
+}
+
+// ---- the loader's one reading
+
+// One reading by any method but grooming.
+fn plain_one<W: Word>(x: W, job: Job<W>, mark: W) -> Trimmed<W>
+    requires { (Suits W.FRACTION W.DIGITS (number_of job.method) job.n (constants_at W.value job.tail)) × (number_of job.method ≢ 2) }
+    ensures { settled_at W.value result ≡ settled_by W.FRACTION W.EXPONENT (method_by (number_of job.method) job.n) (W.value mark) 0 (W.value x) }
+{
+    match job.method {
+        Method::Digits => x.with_digits(&powers::POWERS, job.n, mark),
+        Method::Absolute => x.stepped_by_words(job.n, mark),
+        Method::Round if job.tail.bits > 0 => x.rounded(job.tail, mark),
+        _ => x.with_tail(job.tail, add_for(job.method, job.tail), mark),
+    }
+}
+
+// One reading by a method with a setting that is in its range, at a turn. Only the turn's parity matters.
+pub fn one_by_method<W: Word>(x: W, method: Method, n: u32, mark: W, turn: u64) -> Trimmed<W>
+    requires { Fitting (number_of method) n W.FRACTION W.DIGITS }
+    ensures { settled_at W.value result ≡ settled_by W.FRACTION W.EXPONENT (method_by (number_of method) n) (W.value mark) turn (W.value x) }
+{
+    let job = job_of(method, n);
+    if job.method != Method::Groom {
+        return plain_one(x, job, mark);
+    }
+    let add = if turn % 2 == 0 { W::zero() } else { job.tail.ones };
+    x.with_tail(job.tail, add, mark)
 }
