@@ -10,7 +10,7 @@ ghost use Rattle.reading.specs.Left.{Settled, settled_by, settled_tail};
 ghost use Rattle.reading.specs.Tails.{TailOf};
 ghost use Rattle.reading.specs.Words.{settled_at, constants_at};
 ghost use Rattle.loops.specs.Tallies.{sums_at, totals_of};
-ghost use Rattle.loops.specs.Methods.{Fitting, add_by, keep_of, Suits, Filling, settled_with, next_with};
+ghost use Rattle.loops.specs.Methods.{Fitting, add_at, add_by, keep_of, Suits, Filling, settled_with, next_with};
 ghost use Rattle.arrays.specs.Outcomes.{CountsOnce, Leaves, EachOnce, AllTrimmed, AllTrimmedFrom};
 ghost use Rattle.loops.specs.Walk.{state_at};
 ghost use Rattle.arrays.specs.Subnormal.{NoSubnormal};
@@ -227,6 +227,17 @@ pub fn by_method<W: Digits>(readings: &mut [W], method: Method, n: u32, mark: W)
 
 // ---- the loader's one reading
 
+// One reading by method 4. With no tail it stays.
+fn rounded_one<W: Word>(x: W, tail: Tail<W>, mark: W) -> Trimmed<W>
+    requires { TailOf W.FRACTION (constants_at W.value tail) }
+    ensures { settled_at W.value result ≡ settled_by W.FRACTION W.EXPONENT (round (W.FRACTION - tail.bits)) (W.value mark) 0 (W.value x) }
+{
+    if tail.bits == 0 {
+        return x.with_tail(tail, W::zero(), mark);
+    }
+    x.rounded(tail, mark)
+}
+
 // One reading by any method but grooming.
 fn plain_one<W: Word>(x: W, job: Job<W>, mark: W) -> Trimmed<W>
     requires { (Suits W.FRACTION W.DIGITS (number_of job.method) job.n (constants_at W.value job.tail)) × (number_of job.method ≢ 2) }
@@ -235,9 +246,20 @@ fn plain_one<W: Word>(x: W, job: Job<W>, mark: W) -> Trimmed<W>
     match job.method {
         Method::Digits => x.with_digits(&powers::POWERS, job.n, mark),
         Method::Absolute => x.stepped_by_words(job.n, mark),
-        Method::Round if job.tail.bits > 0 => x.rounded(job.tail, mark),
+        Method::Round => rounded_one(x, job.tail, mark),
         _ => x.with_tail(job.tail, add_for(job.method, job.tail), mark),
     }
+}
+
+// One reading groomed: an even turn shaves, an odd one sets.
+fn groomed_one<W: Word>(x: W, tail: Tail<W>, mark: W, turn: u64) -> Trimmed<W>
+    requires { TailOf W.FRACTION (constants_at W.value tail) }
+    ensures { settled_at W.value result ≡ settled_tail W.FRACTION W.EXPONENT tail.bits (add_at 0 (W.value tail.ones) turn) (W.value mark) (W.value x) }
+{
+    if turn % 2 == 0 {
+        return x.with_tail(tail, W::zero(), mark);
+    }
+    x.with_tail(tail, tail.ones, mark)
 }
 
 // One reading by a method with a setting that is in its range, at a turn. Only the turn's parity matters.
@@ -246,9 +268,8 @@ pub fn one_by_method<W: Word>(x: W, method: Method, n: u32, mark: W, turn: u64) 
     ensures { settled_at W.value result ≡ settled_by W.FRACTION W.EXPONENT (method_by (number_of method) n) (W.value mark) turn (W.value x) }
 {
     let job = job_of(method, n);
-    if job.method != Method::Groom {
-        return plain_one(x, job, mark);
+    match method {
+        Method::Groom => groomed_one(x, job.tail, mark, turn),
+        _ => plain_one(x, job, mark),
     }
-    let add = if turn % 2 == 0 { W::zero() } else { job.tail.ones };
-    x.with_tail(job.tail, add, mark)
 }
