@@ -4,6 +4,8 @@
 
 ghost use Rattle.std.specs.Prelude.{◌≡◌, ℕ, ◌+◌, ◌-◌, ◌^◌, ◌<◌, ◌≤◌, if◌then◌else◌, nat_eq};
 ghost use Rattle.std.specs.Int.Bits.{bit_and, bit_xor};
+ghost use Rattle.std.specs.Mem.{type_size};
+ghost use Rattle.std.proofs.Common.{rules};
 ghost use Rattle.meaning.specs.Methods.{round, absolute, digits};
 ghost use Rattle.powers.specs.Table.{powers};
 ghost use Rattle.reading.specs.Left.{settled_by, settled_tail, takes};
@@ -88,6 +90,9 @@ pub trait Word: Copy + Drop {
     fn with_digits(self, table: &[u64; 633], n: u32, mark: Self) -> Trimmed<Self>
         requires { ((1 ≤ n) × (n ≤ DIGITS)) × (table.now ≡ powers) }
         ensures { settled_at value result ≡ settled_by FRACTION EXPONENT (digits n) (value mark) 0 (value self) };
+
+    // A word has at most 8 bytes, so that an array of 513 of them may be lent.
+    ghost narrow: { type_size Self.row ≤ 8 };
 }
 
 impl Word for u32 {
@@ -102,6 +107,8 @@ impl Word for u32 {
     ghost COARSE = { 252 };
 
     ghost value = { λ w. w };
+
+    ghost narrow = { Prim.search rules };
 
     fn zero() -> Self {
         0
@@ -178,6 +185,8 @@ impl Word for u64 {
     ghost COARSE = { 2044 };
 
     ghost value = { λ w. w };
+
+    ghost narrow = { Prim.search rules };
 
     fn zero() -> Self {
         0
