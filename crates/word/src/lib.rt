@@ -17,14 +17,20 @@ use reading::{Tail, Trimmed};
 pub trait Word: Copy + Drop {
     // How many bits its floats have for the fraction and for the exponent, and the most digits that they can keep.
     const FRACTION: u32;
+
     ghost FRACTION: { ℕ };
+
     ghost EXPONENT: { ℕ };
+
     ghost DIGITS: { ℕ };
 
     // The units of method 5, in least spacings, from and to which the float adder serves: 2^FINE to 2^COARSE.
     const FINE: u32;
+
     ghost FINE: { ℕ };
+
     const COARSE: u32;
+
     ghost COARSE: { ℕ };
 
     // The word as a number.
@@ -97,13 +103,19 @@ pub trait Word: Copy + Drop {
 
 impl Word for u32 {
     const FRACTION: u32 = 23;
+
     ghost FRACTION = { 23 };
+
     ghost EXPONENT = { 8 };
+
     ghost DIGITS = { 7 };
 
     const FINE: u32 = 24;
+
     ghost FINE = { 24 };
+
     const COARSE: u32 = 252;
+
     ghost COARSE = { 252 };
 
     ghost value = { λ w. w };
@@ -175,13 +187,19 @@ impl Word for u32 {
 
 impl Word for u64 {
     const FRACTION: u32 = 52;
+
     ghost FRACTION = { 52 };
+
     ghost EXPONENT = { 11 };
+
     ghost DIGITS = { 15 };
 
     const FINE: u32 = 53;
+
     ghost FINE = { 53 };
+
     const COARSE: u32 = 2044;
+
     ghost COARSE = { 2044 };
 
     ghost value = { λ w. w };
