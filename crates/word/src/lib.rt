@@ -4,6 +4,8 @@
 
 ghost use Rattle.std.specs.Prelude.{◌≡◌, ℕ, ◌+◌, ◌-◌, ◌^◌, ◌<◌, ◌≤◌, if◌then◌else◌, nat_eq};
 ghost use Rattle.std.specs.Int.Bits.{bit_and, bit_xor};
+ghost use Rattle.std.specs.Mem.{type_size};
+ghost use Rattle.std.proofs.Common.{rules};
 ghost use Rattle.meaning.specs.Methods.{round, absolute, digits};
 ghost use Rattle.powers.specs.Table.{powers};
 ghost use Rattle.reading.specs.Left.{settled_by, settled_tail, takes};
@@ -15,14 +17,20 @@ use reading::{Tail, Trimmed};
 pub trait Word: Copy + Drop {
     // How many bits its floats have for the fraction and for the exponent, and the most digits that they can keep.
     const FRACTION: u32;
+
     ghost FRACTION: { ℕ };
+
     ghost EXPONENT: { ℕ };
+
     ghost DIGITS: { ℕ };
 
     // The units of method 5, in least spacings, from and to which the float adder serves: 2^FINE to 2^COARSE.
     const FINE: u32;
+
     ghost FINE: { ℕ };
+
     const COARSE: u32;
+
     ghost COARSE: { ℕ };
 
     // The word as a number.
@@ -88,20 +96,31 @@ pub trait Word: Copy + Drop {
     fn with_digits(self, table: &[u64; 633], n: u32, mark: Self) -> Trimmed<Self>
         requires { ((1 ≤ n) × (n ≤ DIGITS)) × (table.now ≡ powers) }
         ensures { settled_at value result ≡ settled_by FRACTION EXPONENT (digits n) (value mark) 0 (value self) };
+
+    // A word has at most 8 bytes, so that an array of 513 of them may be lent.
+    ghost narrow: { type_size Self.row ≤ 8 };
 }
 
 impl Word for u32 {
     const FRACTION: u32 = 23;
+
     ghost FRACTION = { 23 };
+
     ghost EXPONENT = { 8 };
+
     ghost DIGITS = { 7 };
 
     const FINE: u32 = 24;
+
     ghost FINE = { 24 };
+
     const COARSE: u32 = 252;
+
     ghost COARSE = { 252 };
 
     ghost value = { λ w. w };
+
+    ghost narrow = { Prim.search rules };
 
     fn zero() -> Self {
         0
@@ -168,16 +187,24 @@ impl Word for u32 {
 
 impl Word for u64 {
     const FRACTION: u32 = 52;
+
     ghost FRACTION = { 52 };
+
     ghost EXPONENT = { 11 };
+
     ghost DIGITS = { 15 };
 
     const FINE: u32 = 53;
+
     ghost FINE = { 53 };
+
     const COARSE: u32 = 2044;
+
     ghost COARSE = { 2044 };
 
     ghost value = { λ w. w };
+
+    ghost narrow = { Prim.search rules };
 
     fn zero() -> Self {
         0

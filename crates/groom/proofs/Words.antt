@@ -1,0 +1,68 @@
+-- The rows' laws for slices of words, which `value` reads as numbers.
+use Rattle.std.proofs.Common.{◌≡◌, ℕ, zero, suc, ◌+◌, ◌-◌, ◌*◌, ◌<◌, ◌≤◌, List, length, take, drop, get_or, sym, ap, ◌∙◌, refl, arith}
+use Prim.Native.Nat.{min}
+use mathlib.Core.Path.{subst}
+use mathlib.Core.List.{map}
+use mathlib.Core.Bool.{cond}
+use lib.Bits.{bit_and, bit_xor}
+use lib.Dec.{eqb}
+use lib.ListN.{set, replicate}
+use Rattle.std.proofs.lemmas.List.{map-set, get_or-map, length-map, take-map, drop-map}
+use Rattle.reading.specs.Left.{Tally, Settled, takes}
+use Rattle.loops.specs.Walk.{state_at}
+use Rattle.parts.proofs.Back.{back, map_back}
+use Rattle.loops.proofs.Walks.{Walk}
+use Rattle.rows.specs.Rows.{row_of, fill_at}
+use Rattle.rows.proofs.Rows.{Marking, mark_next, Counting, count_next, count_done, row_is, rest_same}
+
+-- a walk at the same place
+pub walk_at : {next : ℕ → ℕ → ℕ} {f : ℕ → ℕ → Settled} {first : ℕ} {all xs : List ℕ} {t : Tally} {s i j : ℕ} → i ≡ j → Walk next f first all xs t s i → Walk next f first all xs t s j
+walk_at {next} {f} {first} {all} {xs} {t} {s} e inv = subst (λ (k : ℕ). Walk next f first all xs t s k) e inv
+
+module _ {W : Type 0} (value : W → ℕ) where
+  -- one column more is marked
+  pub mark_next_at : {F X bit mark : ℕ} (row : List W) {before : List ℕ} (turns : List W) {i : ℕ} (d e : W)
+      → Marking F X bit mark (map value row) before (map value turns) i → i < length row → i < length before → i < length turns → {v w : W}
+      → value w ≡ bit_xor (value (get_or turns i d)) (value v) → value v ≡ takes F X bit mark (value (get_or row i e))
+      → Marking F X bit mark (map value row) before (map value (set turns i w)) (i + 1)
+  mark_next_at {F} {X} {bit} {mark} row {before} turns {i} d e inv h l k {v} {w} ew ev =
+      subst (λ (ws : List ℕ). Marking F X bit mark (map value row) before ws (i + 1))
+      (sym (map-set value turns i w ∙ ap (set (map value turns) i) (ew ∙ ap (λ (n : ℕ). bit_xor n (value v)) (sym (get_or-map value turns i d 0 k)))))
+      (mark_next inv (rw length-map h) l (ev ∙ ap (takes F X bit mark) (sym (get_or-map value row i e 0 h))))
+
+  -- one column more is counted
+  pub count_next_at : {before : List ℕ} (turns : List W) {odd : W} {i : ℕ} (d : W) → Counting before (map value turns) (value odd) i → i < length before → i < length turns → {w : W}
+      → value w ≡ bit_xor (value odd) (value (get_or turns i d)) → Counting before (map value (set turns i odd)) (value w) (i + 1)
+  count_next_at {before} turns {odd} {i} d inv l k {w} e =
+      subst (λ (ws : List ℕ). Counting before ws (value w) (i + 1)) (sym (map-set value turns i odd))
+      (subst (λ (s : ℕ). Counting before (set (map value turns) i (value odd)) s (i + 1)) (sym (e ∙ ap (bit_xor (value odd)) (sym (get_or-map value turns i d 0 k)))) (count_next inv l))
+
+  pub count_done_at : {before : List ℕ} (turns : List W) {odd : W} {i : ℕ} → Counting before (map value turns) (value odd) i → i < length before
+      → (c : ℕ) → c ≤ i → get_or (map value (set turns i odd)) c 0 ≡ state_at (λ w s. bit_xor s w) 0 before c
+  count_done_at {before} turns {odd} {i} inv l c h = ap (λ (ws : List ℕ). get_or ws c 0) (map-set value turns i odd) ∙ count_done inv l c (omega arith)
+
+  -- what a column's word asks for
+  pub fill_is : (turns : List W) (bit want ones c : ℕ) (d : W) → c < length turns → cond (eqb (bit_and (value (get_or turns c d)) bit) want) 0 ones ≡ fill_at (map value turns) bit want ones c
+  unfolding fill_at
+  fill_is turns bit want ones c d h = ap (λ (t : ℕ). cond (eqb (bit_and t bit) want) 0 ones) (sym (get_or-map value turns c d 0 h))
+
+  pub all_zero : (n : ℕ) {z : W} → value z ≡ 0 → (c : ℕ) → get_or (map value (replicate n z)) c 0 ≡ 0
+  all_zero zero e c = refl
+  all_zero (suc n) e zero = e
+  all_zero (suc n) e (suc c) = all_zero n e c
+
+  -- row r of a block whose rows from it on are as they were
+  pub row_is_at : (block whole : List W) (a r k : ℕ) → a ≡ r * 512 → drop a (map value block) ≡ drop a (map value whole) → a < length whole → k ≡ min (length whole - a) 512
+      → map value (take k (drop a block)) ≡ row_of r (map value whole)
+  row_is_at block whole a r k ea same h ek =
+      let long : length (map value whole) ≡ length whole = length-map whole value in
+      sym (ap (take k) (drop-map value a block) ∙ take-map value k (drop a block))
+      ∙ ap (take k) same
+      ∙ row_is (map value whole) a r k (omega (arith, ea, h, long)) (omega (arith, h, long)) (omega (arith, ek, long))
+
+  -- and once that row has come back, so are those after it
+  pub rest_same_at : (block whole ys : List W) (a k e : ℕ) → a + k ≡ e → length ys ≡ k → a + k ≤ length block → drop a (map value block) ≡ drop a (map value whole)
+      → drop e (map value (back block a k ys)) ≡ drop e (map value whole)
+  rest_same_at block whole ys a k e to long l h =
+      ap (drop e) (map_back value block a k ys)
+      ∙ rest_same (map value block) (map value whole) (map value ys) a k e to (length-map ys value ∙ long) (rw length-map l) h
