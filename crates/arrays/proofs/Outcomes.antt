@@ -3,7 +3,6 @@ use Rattle.std.proofs.Common.{◌≡◌, ℕ, List, sym}
 use mathlib.Core.Path.{subst}
 use mathlib.Core.List.{map}
 use Rattle.reading.specs.Left.{Tally, Settled}
-use Rattle.reading.specs.Words.{settled_at}
 use Rattle.reading.specs.declared.Trimmed.{Trimmed}
 use Rattle.loops.specs.Tallies.{Few}
 use Rattle.loops.proofs.Methods.{over_all}

@@ -21,6 +21,9 @@ use method::Method;
 use reading::{Tail, Trimmed};
 use word::Word;
 
+// The length of a part: its counters may be as narrow as a single.
+const PART: usize = 65536;
+
 // Trims each reading of a part, up to 65,536, and adds up what they count for.
 pub fn each<W: Word, F: Fn(W) -> Trimmed<W>>(readings: &mut [W], trim: F) -> Sums<W>
     requires few { length readings.old ≤ 65536 }
@@ -125,7 +128,10 @@ impl Digits for u32 {
         }
         let limits = digit_tables::limits(&powers::POWERS);
         let masks = digit_tables::masks(n);
-        each(readings, |x: u32| single::field_single(&limits, &masks, x, n, mark))
+        each(
+            readings,
+            |x: u32| single::field_single(&limits, &masks, x, n, mark),
+        )
     }
 }
 
@@ -192,12 +198,11 @@ fn all<W: Digits>(readings: &mut [W], job: Job<W>, mark: W) -> Totals
     ensures { AllTrimmed W.value (settled_by W.FRACTION W.EXPONENT (method_by (number_of job.method) job.n) (W.value mark) 0) readings.old readings.new (totals_of result) }
 {
     let mut totals = Totals::new();
-    let mut a: usize = 0;
-    while a < readings.len() {
-        let e = a + loops::at_most(readings.len() - a, 65536);
-        let sums = plain(&mut readings[a..e], job, mark);
+    for part in 0..readings.len().div_ceil(PART) {
+        let start = part * PART;
+        let end = start + PART.min(readings.len() - start);
+        let sums = plain(&mut readings[start..end], job, mark);
         totals = totals.join(sums);
-        a = e;
     }
     totals
 }
@@ -232,10 +237,10 @@ fn rounded_one<W: Word>(x: W, tail: Tail<W>, mark: W) -> Trimmed<W>
     requires { TailOf W.FRACTION (constants_at W.value tail) }
     ensures { settled_at W.value result ≡ settled_by W.FRACTION W.EXPONENT (round (W.FRACTION - tail.bits)) (W.value mark) 0 (W.value x) }
 {
-    if tail.bits == 0 {
-        return x.with_tail(tail, W::zero(), mark);
+    if tail.bits > 0 {
+        return x.rounded(tail, mark);
     }
-    x.rounded(tail, mark)
+    x.with_tail(tail, W::zero(), mark)
 }
 
 // One reading by any method but grooming.
@@ -256,10 +261,10 @@ fn groomed_one<W: Word>(x: W, tail: Tail<W>, mark: W, turn: u64) -> Trimmed<W>
     requires { TailOf W.FRACTION (constants_at W.value tail) }
     ensures { settled_at W.value result ≡ settled_tail W.FRACTION W.EXPONENT tail.bits (add_at 0 (W.value tail.ones) turn) (W.value mark) (W.value x) }
 {
-    if turn % 2 == 0 {
-        return x.with_tail(tail, W::zero(), mark);
-    }
-    x.with_tail(tail, tail.ones, mark)
+    let none = W::zero();
+    let ones = tail.ones;
+    let add = if turn % 2 == 0 { none } else { ones };
+    x.with_tail(tail, add, mark)
 }
 
 // One reading by a method with a setting that is in its range, at a turn. Only the turn's parity matters.

@@ -1,5 +1,5 @@
 -- The method's walk from the first turn on.
-use Rattle.std.proofs.Common.{ℕ, ◌∙◌, ap₂, sym, rules}
+use Rattle.std.proofs.Common.{ℕ, ◌∙◌, ap₂}
 use mathlib.Core.Logic.{inl}
 use mathlib.Core.List.{map}
 use Rattle.meaning.specs.Methods.{turn_after}

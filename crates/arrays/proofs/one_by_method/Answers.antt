@@ -1,6 +1,5 @@
 -- Groomed by the turn's parity, or by a method that doesn't look at the turn.
-use Rattle.std.proofs.Common.{◌≡◌, ℕ, ◌∙◌, ap, ap₂, refl, arith, rules}
-use mathlib.Core.Path.{sym}
+use Rattle.std.proofs.Common.{ℕ, ◌∙◌, ap, ap₂, refl, arith}
 use Rattle.method.specs.Kinds.{number_of}
 use Rattle.method.specs.declared.Method.{Method}
 use Rattle.asking.specs.Asked.{method_by}

@@ -1,5 +1,5 @@
 -- Groomed, or by a method that doesn't look at the state.
-use Rattle.std.proofs.Common.{◌≡◌, ◌∙◌, length, ap, arith, rules}
+use Rattle.std.proofs.Common.{◌∙◌, ap, arith}
 use mathlib.Core.List.{map}
 use Prim.Native.Nat.{◌≤◌}
 use Rattle.std.proofs.lemmas.List.{length-map}
@@ -28,7 +28,7 @@ returns-in-Groom g c =
         sums = c.groom.ensures.sums ∙ groom_tallied m.FRACTION m.EXPONENT k j.n (m.value s.mark) two constants tail (m.value s.add) ws;
         content = c.groom.ensures.content ∙ groom_walked m.FRACTION m.EXPONENT k j.n (m.value s.mark) two constants tail (m.value s.add) ws;
       };
-      add = c.groom.ensures.add ∙ rw length-map at groom_state m.FRACTION m.EXPONENT k j.n (m.value s.mark) two constants tail (m.value s.add) ws;
+      add = c.groom.ensures.add ∙ (rw length-map at (groom_state m.FRACTION m.EXPONENT k j.n (m.value s.mark) two constants tail (m.value s.add) ws));
     }
 
 pub all-requires : goal.all-requires
@@ -47,5 +47,5 @@ returns-in_default g c =
         sums = c.all.ensures.sums ∙ other_tallied m.FRACTION m.EXPONENT k j.n (m.value s.mark) other (m.value s.add) ws;
         content = c.all.ensures.content ∙ other_walked m.FRACTION m.EXPONENT k j.n (m.value s.mark) other (m.value s.add) ws;
       };
-      add = rw length-map at other_state m.FRACTION m.EXPONENT k j.n (m.value s.mark) other (m.value s.add) ws;
+      add = rw length-map at (other_state m.FRACTION m.EXPONENT k j.n (m.value s.mark) other (m.value s.add) ws);
     }
