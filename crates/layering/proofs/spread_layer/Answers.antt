@@ -7,49 +7,53 @@ use Rattle.summary.proofs.Made.{made, spreads}
 use Rattle.layering.proofs.Ready.{few, size_low, all_ready, all_within, reference_is, stored_is, codes_are}
 use Rattle.layering.proofs.spread_layer.Goals as goal
 
-pub float_to_bits-low : goal.float_to_bits-low
-float_to_bits-low c =
+pub float_to_bits-span : goal.float_to_bits-span
+float_to_bits-span c =
     let m = made c.args.mark c.args.readings.now c.requires.packable (λ i h. search rules) in
-    bits_number c.args.a (spreads _ _ _ _ m c.requires.readings_value).low
+    bits_number c.args.low (spreads _ _ _ _ m c.requires.readings_value).low
 
-pub float_to_bits-high : goal.float_to_bits-high
-float_to_bits-high c =
+pub float_to_bits-span-2 : goal.float_to_bits-span-2
+float_to_bits-span-2 c =
     let m = made c.args.mark c.args.readings.now c.requires.packable (λ i h. search rules) in
-    bits_number c.args.z (spreads _ _ _ _ m c.requires.readings_value).high
+    bits_number c.args.high (spreads _ _ _ _ m c.requires.readings_value).high
 
-pub least_step-e-requires : goal.least_step-e-requires
-least_step-e-requires c =
+pub invariant_of-span : goal.invariant_of-span
+invariant_of-span c =
     let m = made c.args.mark c.args.readings.now c.requires.packable (λ i h. search rules) in
     let a = spreads _ _ _ _ m c.requires.readings_value in
-    let w = c.requires.width in
-    record { lo_bound = a.low; hi_bound = a.high; lo_bound_2 = a.differ; le_width = w.low; width_bound = w.high }
+    record { low_finite = a.low; high_finite = a.high; order = a.differ }
 
-pub codes_of-requires : goal.codes_of-requires
-codes_of-requires c =
+pub invariant_of-layer : goal.invariant_of-layer
+invariant_of-layer c =
     let m = made c.args.mark c.args.readings.now c.requires.packable (λ i h. search rules) in
-    let e = c.least_step-e in
+    let e = c.least_step-exponent in
     let p = c.requires.packable in
     let q = c.requires.readings_value in
     let w = c.requires.width in
     record {
-      r_bound = (spreads _ _ _ _ m q).low;
-      e_bound = rw e.ensures (few _ w _ _ _ _ p m q);
-      r_bound_2 = rw e.ensures (size_low _ w _ _ _ _ p m q);
-      all_ready = rw e.ensures (all_ready _ w _ _ _ _ p m q);
-      all_held = rw e.ensures (all_within _ w _ _ _ _ p m q);
+      reference_finite = (spreads _ _ _ _ m q).low;
+      reference_small = rw e.ensures (size_low _ w _ _ _ _ p m q);
+      exponent_bound = rw e.ensures (few _ w _ _ _ _ p m q);
       width_bound = w.high;
-      readings_len = c.requires.readings_len;
     }
 
-pub stored-requires : goal.stored-requires
-stored-requires c =
+pub codes_of-requires : goal.codes_of-requires
+codes_of-requires c =
     let m = made c.args.mark c.args.readings.now c.requires.packable (λ i h. search rules) in
-    rw c.least_step-e.ensures (few _ c.requires.width _ _ _ _ c.requires.packable m c.requires.readings_value)
+    let e = c.least_step-exponent in
+    let p = c.requires.packable in
+    let q = c.requires.readings_value in
+    let w = c.requires.width in
+    record {
+      all_ready = rw e.ensures (all_ready _ w _ _ _ _ p m q);
+      all_held = rw e.ensures (all_within _ w _ _ _ _ p m q);
+      readings_len = c.requires.readings_len;
+    }
 
 pub returns : goal.returns
 returns c =
     let m = made c.args.mark c.args.readings.now c.requires.packable (λ i h. search rules) in
-    let e = c.least_step-e in
+    let e = c.least_step-exponent in
     let p = c.requires.packable in
     let q = c.requires.readings_value in
     let w = c.requires.width in
