@@ -236,7 +236,7 @@ pub fn least_step(span: Span, width: u32) -> u32
     let steps = layer_width::steps_of(width);
     let low_spacing = spacing_of(span.low % 0x8000_0000);
     let high_spacing = spacing_of(span.high % 0x8000_0000);
-    // From here down, as long as the exponent below holds the span too.
+    // From here down, as long as the exponent below holds the span too. A `while`: what it counts is what is looked for, and no place in a slice.
     let mut exponent = low_spacing.max(high_spacing) + 26 - width;
     while 0 < exponent && holds_at(span, exponent - 1, steps) {
         exponent -= 1;

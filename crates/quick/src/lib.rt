@@ -7,7 +7,7 @@ ghost use Rattle.std.specs.Float.Ieee.{of_bits};
 ghost use Rattle.meaning.specs.Readings.{position};
 ghost use Rattle.meaning.specs.Layers.{last_code, code};
 ghost use Rattle.codes.specs.Cut.{AllReady, CanCode, layer_by, code_by};
-ghost use Rattle.quick.specs.Coarse.{Coarse, AllCoarse, AllHeld, or_top, finest};
+ghost use Rattle.quick.specs.Coarse.{Coarse, AllCoarse, AllHeld, present_magnitude, or_top, finest};
 
 use codes::LayerStep;
 
@@ -28,16 +28,21 @@ fn or_top(magnitude: u32) -> u32
     summary::choose(magnitude, 0, u32::MAX, magnitude)
 }
 
+// A reading's magnitude, 0 where it is missing.
+fn present_magnitude(reading: u32, mark: u32) -> u32
+    ensures { result ≡ present_magnitude mark reading }
+{
+    summary::choose(reading, mark, 0, reading % 0x8000_0000)
+}
+
 // The smallest magnitude of the present readings that are not zero; above all magnitudes where there is none.
 fn finest_magnitude(readings: &[u32], mark: u32) -> u32
     ensures { result ≡ finest mark readings.now }
 {
-    let mut least = u32::MAX;
-    for reading in readings {
-        let magnitude = summary::choose(*reading, mark, 0, *reading % 0x8000_0000);
-        least = or_top(magnitude).min(least);
-    }
-    least
+    readings.iter().fold(
+        u32::MAX,
+        |least, reading| least.min(or_top(present_magnitude(*reading, mark))),
+    )
 }
 
 // The first magnitude of a normal number whose spacing is at least 2^(exponent + width - 53); where exponent + width is below 53, of any normal number. A layer with a
@@ -61,7 +66,8 @@ impl Lift {
         }
     }
 
-    // The code of a reading, by doubles. A missing reading is coded as the reference is, and then given its own code.
+    // The code of a reading, by doubles. A missing reading is coded as the reference is, and then given its own code. A reading widens by `as`: `f64::from` tests for
+    // a NaN first, and none of these is one.
     fn code(self, reading: u32, mark: u32, missing: u16) -> u16
         requires coarse { Coarse (self.layer.exponent + self.layer.width - 53) self.layer.reference }
         requires can_code { reading ≢ mark → CanCode reading self.layer.reference self.layer.exponent }

@@ -48,7 +48,7 @@ fn reading_of(key: u32) -> u32
     }
 }
 
-// `yes` where a and b are equal, `no` where they differ.
+// `yes` where a and b are equal, `no` where they differ. In a loop over readings this stands for an `if`: a proof reads it as one equation, and no branch is left.
 pub fn choose(a: u32, b: u32, yes: u32, no: u32) -> u32
     ensures { result ≡ cond (eqb a b) yes no }
 {
