@@ -14,7 +14,7 @@ fn largest_magnitude(readings: &[u32], mark: u32) -> u32
     while i < readings.len() {
         let w = readings[i];
         let m = summary::choose(w, mark, 0, w % 0x8000_0000);
-        most = summary::larger(m, most);
+        most = m.max(most);
         i += 1;
     }
     most

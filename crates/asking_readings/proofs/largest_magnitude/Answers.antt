@@ -4,7 +4,7 @@ use Rattle.asking_readings.proofs.largest_magnitude.Goals as goal
 
 pub loop-i-preserved : goal.loop-i-preserved
 loop-i-preserved c =
-    turn _ _ _ _ _ _ (search rules) c.choose-m.ensures c.larger-most.ensures c.loop-i.invariant
+    turn _ _ _ _ _ _ (search rules) c.choose-m.ensures c.max-most.ensures c.loop-i.invariant
 
 pub returns : goal.returns
 returns c =

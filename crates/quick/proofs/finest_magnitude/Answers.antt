@@ -1,14 +1,13 @@
-use borrow.Author.Rules.{rules}
-use Rattle.quick.proofs.Finest.{start, turn, end}
+use mathlib.Core.Path.{◌≡◌}
+use Prim.Native.Nat.{min}
+use native.Mathlib.Omega.{arith}
+use Rattle.std.proofs.Common.{rules}
+use Rattle.std.specs.List.{fold}
+use Rattle.quick.specs.Coarse.{or_top, present_magnitude}
+use Rattle.quick.proofs.Finest.{folded, finest_few}
 use Rattle.quick.proofs.finest_magnitude.Goals as goal
-
-pub loop-i-init : goal.loop-i-init
-loop-i-init c = start _ _
-
-pub loop-i-preserved : goal.loop-i-preserved
-loop-i-preserved c =
-    turn _ _ _ _ _ _ _ (search rules) c.choose-m.ensures c.choose-z.ensures c.smaller-least.ensures c.loop-i.invariant
 
 pub returns : goal.returns
 returns c =
-    end c.args.mark c.args.readings.now c.loop-i.least c.loop-i.i (search rules) c.loop-i.invariant
+    let e : c.fold.result ≡ fold (λ m w. min m (or_top (present_magnitude c.args.mark w))) 4294967295 c.args.readings.now = search rules in
+    omega (arith, e, folded c.args.mark 4294967295 c.args.readings.now (omega arith), finest_few c.args.mark c.args.readings.now)
