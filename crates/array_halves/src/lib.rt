@@ -6,100 +6,106 @@
 ghost use Rattle.std.specs.Prelude.{◌≡◌, ◌+◌, ◌*◌, ◌/◌, ◌%◌, ◌^◌, ◌≤◌, ℕ, length};
 ghost use mathlib.Core.List.{map, zip_with};
 
-// What contracts read as a natural number.
+// A number of some bytes, which contracts read as a natural number.
 pub trait Number: Copy {
     ghost value: { Self → ℕ };
+
+    ghost BYTES: { ℕ };
+
+    const BYTES: usize;
 }
 
 impl Number for u8 {
     ghost value = { λ x. x };
+
+    ghost BYTES = { 1 };
+
+    const BYTES: usize = 1;
 }
 
 impl Number for u16 {
     ghost value = { λ x. x };
+
+    ghost BYTES = { 2 };
+
+    const BYTES: usize = 2;
 }
 
 impl Number for u32 {
     ghost value = { λ x. x };
+
+    ghost BYTES = { 4 };
+
+    const BYTES: usize = 4;
 }
 
 impl Number for u64 {
     ghost value = { λ x. x };
+
+    ghost BYTES = { 8 };
+
+    const BYTES: usize = 8;
 }
 
 // A number of two halves.
 pub trait Halves<Half: Number>: Number {
-    // The bits of a half.
-    ghost BITS: { ℕ };
-
-    const BITS: u32;
-
-    // The half of a number that starts at this bit, 0 or BITS.
-    fn half(self, shift: u32) -> Half
-        requires { shift ≤ BITS }
-        ensures { Half.value result ≡ Self.value self / 2 ^ shift % 2 ^ BITS };
+    // The half of a number that starts at this byte, the low one at 0.
+    fn half(self, byte: usize) -> Half
+        requires { byte ≤ Half.BYTES }
+        ensures { Half.value result ≡ Self.value self / 256 ^ byte % 256 ^ Half.BYTES };
 
     // A number of its low and its high half.
     fn joined(low: Half, high: Half) -> Self
-        ensures { Self.value result ≡ Half.value low + 2 ^ BITS * Half.value high };
+        ensures { Self.value result ≡ Half.value low + 256 ^ Half.BYTES * Half.value high };
 }
 
+#[tactic(auto, using(crate::proofs::Bytes::from_byte))]
 impl Halves<u8> for u16 {
-    ghost BITS = { 8 };
-
-    const BITS: u32 = 8;
-
-    fn half(self, shift: u32) -> u8 {
-        ((self >> shift) % 256) as u8
+    fn half(self, byte: usize) -> u8 {
+        ((self >> (8 * byte)) % 256) as u8
     }
 
     fn joined(low: u8, high: u8) -> u16 {
-        low as u16 + 256 * high as u16
+        u16::from(low) + 256 * u16::from(high)
     }
 }
 
+#[tactic(auto, using(crate::proofs::Bytes::from_byte))]
 impl Halves<u16> for u32 {
-    ghost BITS = { 16 };
-
-    const BITS: u32 = 16;
-
-    fn half(self, shift: u32) -> u16 {
-        ((self >> shift) % 65536) as u16
+    fn half(self, byte: usize) -> u16 {
+        ((self >> (8 * byte)) % 65536) as u16
     }
 
     fn joined(low: u16, high: u16) -> u32 {
-        low as u32 + 65536 * high as u32
+        u32::from(low) + 65536 * u32::from(high)
     }
 }
 
+#[tactic(auto, using(crate::proofs::Bytes::from_byte))]
 impl Halves<u32> for u64 {
-    ghost BITS = { 32 };
-
-    const BITS: u32 = 32;
-
-    fn half(self, shift: u32) -> u32 {
-        ((self >> shift) % 4294967296) as u32
+    fn half(self, byte: usize) -> u32 {
+        ((self >> (8 * byte)) % 4294967296) as u32
     }
 
     fn joined(low: u32, high: u32) -> u64 {
-        low as u64 + 4294967296 * high as u64
+        u64::from(low) + 4294967296 * u64::from(high)
     }
 }
 
-// The halves of numbers that start at this bit.
-pub fn cut<Half: Number, Whole: Halves<Half>>(numbers: &[Whole], shift: u32, halves: &mut [Half])
-    requires { (shift ≤ Whole.BITS) × (length numbers.now ≡ length halves.old) }
-    ensures { map Half.value halves.new ≡ map (λ w. Whole.value w / 2 ^ shift % 2 ^ Whole.BITS) numbers.now }
+// The halves of numbers that start at this byte.
+pub fn cut<Half: Number, Whole: Halves<Half>>(numbers: &[Whole], byte: usize, halves: &mut [Half])
+    requires { (byte ≤ Half.BYTES) × (length numbers.now ≡ length halves.old) }
+    ensures { map Half.value halves.new ≡ map (λ w. Whole.value w / 256 ^ byte % 256 ^ Half.BYTES) numbers.now }
 {
     for (i, half) in halves.iter_mut().enumerate() {
-        *half = numbers[i].half(shift);
+        *half = numbers[i].half(byte);
     }
 }
 
 // The numbers of their low and their high halves.
 pub fn join<Half: Number, Whole: Halves<Half>>(low: &[Half], high: &[Half], numbers: &mut [Whole])
     requires { (length low.now ≡ length numbers.old) × (length high.now ≡ length numbers.old) }
-    ensures { map Whole.value numbers.new ≡ zip_with (λ l h. Half.value l + 2 ^ Whole.BITS * Half.value h) low.now high.now }
+    ensures { map Whole.value numbers.new ≡ zip_with (λ l h. Half.value l + 256 ^ Half.BYTES * Half.value h) low.now high.now }
 {
     for (i, number) in numbers.iter_mut().enumerate() {
         *number = Whole::joined(low[i], high[i]);

@@ -3,181 +3,185 @@
 // calls open to users are those of `planes`.
 #![tactic(auto)]
 
-ghost use Rattle.std.specs.Prelude.{◌≡◌, ◌≤◌, length};
+ghost use Rattle.std.specs.Prelude.{◌≡◌, ◌+◌, ◌≤◌, ◌<◌, length};
+ghost use mathlib.Core.List.{map};
+ghost use Rattle.std.proofs.Common.{rules};
 ghost use Rattle.array_planes.specs.Places.{stored, fetched, Room};
 
-// Writes pairs of bytes to two planes.
-fn write_pairs(pairs: &[u16], planes: &mut [u8], n: usize, at: usize)
-    requires { Room 2 n at (length pairs.now) (length planes.old) }
-    ensures { planes.new ≡ stored 2 n at (length pairs.now) pairs.now planes.old }
-{
-    let to = at + pairs.len();
-    array_halves::cut_bytes(pairs, 0, &mut planes[at..to]);
-    array_halves::cut_bytes(pairs, 8, &mut planes[n + at..n + to]);
+use array_halves::{Halves, Number};
+
+// As many numbers go by halves at once: what they need stays in the nearest cache.
+const BLOCK: usize = 512;
+
+// A number whose bytes stand in planes.
+trait Planes: Number {
+    // Writes numbers to their planes.
+    fn write(numbers: &[Self], planes: &mut [u8], n: usize, at: usize)
+        requires { (length numbers.now ≤ n) × Room Self.BYTES n at (length numbers.now) (length planes.old) }
+        ensures { planes.new ≡ stored Self.BYTES n at (length numbers.now) (map Self.value numbers.now) planes.old };
+
+    // Reads numbers from their planes.
+    fn read(planes: &[u8], n: usize, at: usize, numbers: &mut [Self])
+        requires { Room Self.BYTES n at (length numbers.old) (length planes.now) }
+        ensures { map Self.value numbers.new ≡ fetched Self.BYTES n at (length numbers.old) planes.now };
+
+    // There is a plane.
+    ghost some_bytes: { 0 < Self.BYTES };
 }
 
-// Reads pairs of bytes from two planes.
-fn read_pairs(planes: &[u8], n: usize, at: usize, pairs: &mut [u16])
-    requires { Room 2 n at (length pairs.old) (length planes.now) }
-    ensures { pairs.new ≡ fetched 2 n at (length pairs.old) planes.now }
-{
-    let to = at + pairs.len();
-    array_halves::join_bytes(&planes[at..to], &planes[n + at..n + to], pairs);
+// A pair's bytes are its halves: they go straight to the planes and come straight from there.
+impl Planes for u16 {
+    ghost some_bytes = { Prim.search rules };
+
+    fn write(numbers: &[u16], planes: &mut [u8], n: usize, at: usize) {
+        let to = at + numbers.len();
+        array_halves::cut(numbers, 0, &mut planes[at..to]);
+        array_halves::cut(numbers, 1, &mut planes[n + at..n + to]);
+    }
+
+    fn read(planes: &[u8], n: usize, at: usize, numbers: &mut [u16]) {
+        let to = at + numbers.len();
+        array_halves::join(&planes[at..to], &planes[n + at..n + to], numbers);
+    }
+}
+
+impl Planes for u32 {
+    ghost some_bytes = { Prim.search rules };
+
+    fn write(numbers: &[u32], planes: &mut [u8], n: usize, at: usize) {
+        write_halves(numbers, planes, n, at, &mut [0u16; BLOCK]);
+    }
+
+    fn read(planes: &[u8], n: usize, at: usize, numbers: &mut [u32]) {
+        read_halves(planes, n, at, &mut [0u16; BLOCK], &mut [0u16; BLOCK], numbers);
+    }
+}
+
+impl Planes for u64 {
+    ghost some_bytes = { Prim.search rules };
+
+    fn write(numbers: &[u64], planes: &mut [u8], n: usize, at: usize) {
+        write_halves(numbers, planes, n, at, &mut [0u32; BLOCK]);
+    }
+
+    fn read(planes: &[u8], n: usize, at: usize, numbers: &mut [u64]) {
+        read_halves(planes, n, at, &mut [0u32; BLOCK], &mut [0u32; BLOCK], numbers);
+    }
 }
 
 // ---- a block, as long as there is room for its halves
 
-// Writes a block of singles to 4 planes: the low halves, then the high ones. They stand in lent room in between.
-fn write_single_block(readings: &[u32], planes: &mut [u8], n: usize, at: usize, halves: &mut [u16])
-    requires { (length readings.now ≤ length halves.old) × Room 4 n at (length readings.now) (length planes.old) }
-    ensures { planes.new ≡ stored 4 n at (length readings.now) readings.now planes.old }
-{
-    let k = readings.len();
-    array_halves::cut_pairs(readings, 0, &mut halves[0..k]);
-    write_pairs(&halves[0..k], planes, n, at);
-    array_halves::cut_pairs(readings, 16, &mut halves[0..k]);
-    write_pairs(&halves[0..k], planes, n, 2 * n + at);
-}
-
-// Reads a block of singles from 4 planes. Their halves stand in lent room in between.
-fn read_single_block(
-    planes: &[u8],
-    n: usize,
-    at: usize,
-    low: &mut [u16],
-    high: &mut [u16],
-    readings: &mut [u32],
-)
-    requires { ((length readings.old ≤ length low.old) × (length readings.old ≤ length high.old)) × Room 4 n at (length readings.old) (length planes.now) }
-    ensures { readings.new ≡ fetched 4 n at (length readings.old) planes.now }
-{
-    let k = readings.len();
-    read_pairs(planes, n, at, &mut low[0..k]);
-    read_pairs(planes, n, 2 * n + at, &mut high[0..k]);
-    array_halves::join_pairs(&low[0..k], &high[0..k], readings);
-}
-
-// Writes a block of doubles to 8 planes: the low halves, then the high ones. They stand in lent room in between.
-fn write_double_block(
-    readings: &[u64],
+// Writes a block: the planes of the low halves, then those of the high ones. They stand in lent room in between.
+fn write_block<Half: Planes, Whole: Halves<Half>>(
+    block: &[Whole],
     planes: &mut [u8],
     n: usize,
     at: usize,
-    halves: &mut [u32],
-    quarters: &mut [u16],
+    halves: &mut [Half],
 )
-    requires { ((length readings.now ≤ length halves.old) × (length readings.now ≤ length quarters.old)) × Room 8 n at (length readings.now) (length planes.old) }
-    ensures { planes.new ≡ stored 8 n at (length readings.now) readings.now planes.old }
+    requires block { (length block.now ≡ length halves.old) × (length block.now ≤ n) }
+    requires room { Room (Half.BYTES + Half.BYTES) n at (length block.now) (length planes.old) }
+    ensures { planes.new ≡ stored (Half.BYTES + Half.BYTES) n at (length block.now) (map Whole.value block.now) planes.old }
 {
-    let k = readings.len();
-    array_halves::cut_words(readings, 0, &mut halves[0..k]);
-    write_single_block(&halves[0..k], planes, n, at, quarters);
-    array_halves::cut_words(readings, 32, &mut halves[0..k]);
-    write_single_block(&halves[0..k], planes, n, 4 * n + at, quarters);
+    let bytes = Half::BYTES;
+    array_halves::cut(block, 0, halves);
+    Half::write(halves, planes, n, at);
+    array_halves::cut(block, bytes, halves);
+    Half::write(halves, planes, n, bytes * n + at);
 }
 
-// Reads a block of doubles from 8 planes. Their halves stand in lent room in between.
-fn read_double_block(
+// Reads a block: the low halves from their planes, then the high ones from theirs. They stand in lent room in between.
+fn read_block<Half: Planes, Whole: Halves<Half>>(
     planes: &[u8],
     n: usize,
     at: usize,
-    low: &mut [u32],
-    high: &mut [u32],
-    lows: &mut [u16],
-    highs: &mut [u16],
-    readings: &mut [u64],
+    low: &mut [Half],
+    high: &mut [Half],
+    block: &mut [Whole],
 )
-    requires { (((length readings.old ≤ length low.old) × (length readings.old ≤ length high.old)) × ((length readings.old ≤ length lows.old) × (length readings.old ≤ length highs.old))) × Room 8 n at (length readings.old) (length planes.now) }
-    ensures { readings.new ≡ fetched 8 n at (length readings.old) planes.now }
+    requires block { (length block.old ≡ length low.old) × (length block.old ≡ length high.old) }
+    requires room { Room (Half.BYTES + Half.BYTES) n at (length block.old) (length planes.now) }
+    ensures { map Whole.value block.new ≡ fetched (Half.BYTES + Half.BYTES) n at (length block.old) planes.now }
 {
-    let k = readings.len();
-    read_single_block(planes, n, at, lows, highs, &mut low[0..k]);
-    read_single_block(planes, n, 4 * n + at, lows, highs, &mut high[0..k]);
-    array_halves::join_words(&low[0..k], &high[0..k], readings);
+    Half::read(planes, n, at, low);
+    Half::read(planes, n, Half::BYTES * n + at, high);
+    array_halves::join(low, high, block);
 }
 
-// ---- any number of readings
+// ---- any number of readings, block by block
 
-// Writes singles to 4 planes, block by block.
+fn write_halves<Half: Planes, Whole: Halves<Half>>(
+    numbers: &[Whole],
+    planes: &mut [u8],
+    n: usize,
+    at: usize,
+    halves: &mut [Half],
+)
+    requires block { (length halves.old ≡ BLOCK) × (length numbers.now ≤ n) }
+    requires room { Room (Half.BYTES + Half.BYTES) n at (length numbers.now) (length planes.old) }
+    ensures { planes.new ≡ stored (Half.BYTES + Half.BYTES) n at (length numbers.now) (map Whole.value numbers.now) planes.old }
+{
+    for start in (0..numbers.len()).step_by(BLOCK) {
+        let k = BLOCK.min(numbers.len() - start);
+        write_block(&numbers[start..start + k], planes, n, at + start, &mut halves[..k]);
+    }
+}
+
+fn read_halves<Half: Planes, Whole: Halves<Half>>(
+    planes: &[u8],
+    n: usize,
+    at: usize,
+    low: &mut [Half],
+    high: &mut [Half],
+    numbers: &mut [Whole],
+)
+    requires block { (length low.old ≡ BLOCK) × (length high.old ≡ BLOCK) }
+    requires room { Room (Half.BYTES + Half.BYTES) n at (length numbers.old) (length planes.now) }
+    ensures { map Whole.value numbers.new ≡ fetched (Half.BYTES + Half.BYTES) n at (length numbers.old) planes.now }
+{
+    for start in (0..numbers.len()).step_by(BLOCK) {
+        let k = BLOCK.min(numbers.len() - start);
+        read_block(
+            planes,
+            n,
+            at + start,
+            &mut low[..k],
+            &mut high[..k],
+            &mut numbers[start..start + k],
+        );
+    }
+}
+
+// ---- for the crates above
+
+// Writes singles to 4 planes.
 pub fn write_singles(readings: &[u32], planes: &mut [u8], n: usize, at: usize)
     requires { (length readings.now ≤ n) × Room 4 n at (length readings.now) (length planes.old) }
     ensures { planes.new ≡ stored 4 n at (length readings.now) readings.now planes.old }
 {
-    let mut halves = [0u16; 512];
-    let mut a: usize = 0;
-    while a < readings.len() {
-        let e = a + loops::at_most(readings.len() - a, 512);
-        write_single_block(&readings[a..e], planes, n, at + a, &mut halves[0..512]);
-        a = e;
-    }
+    u32::write(readings, planes, n, at);
 }
 
-// Reads singles from 4 planes, block by block.
+// Reads singles from 4 planes.
 pub fn read_singles(planes: &[u8], n: usize, at: usize, readings: &mut [u32])
     requires { Room 4 n at (length readings.old) (length planes.now) }
     ensures { readings.new ≡ fetched 4 n at (length readings.old) planes.now }
 {
-    let mut low = [0u16; 512];
-    let mut high = [0u16; 512];
-    let mut a: usize = 0;
-    while a < readings.len() {
-        let e = a + loops::at_most(readings.len() - a, 512);
-        read_single_block(
-            planes,
-            n,
-            at + a,
-            &mut low[0..512],
-            &mut high[0..512],
-            &mut readings[a..e],
-        );
-        a = e;
-    }
+    u32::read(planes, n, at, readings);
 }
 
-// Writes doubles to 8 planes, block by block.
+// Writes doubles to 8 planes.
 pub fn write_doubles(readings: &[u64], planes: &mut [u8], n: usize, at: usize)
     requires { (length readings.now ≤ n) × Room 8 n at (length readings.now) (length planes.old) }
     ensures { planes.new ≡ stored 8 n at (length readings.now) readings.now planes.old }
 {
-    let mut halves = [0u32; 512];
-    let mut quarters = [0u16; 512];
-    let mut a: usize = 0;
-    while a < readings.len() {
-        let e = a + loops::at_most(readings.len() - a, 512);
-        write_double_block(
-            &readings[a..e],
-            planes,
-            n,
-            at + a,
-            &mut halves[0..512],
-            &mut quarters[0..512],
-        );
-        a = e;
-    }
+    u64::write(readings, planes, n, at);
 }
 
-// Reads doubles from 8 planes, block by block.
+// Reads doubles from 8 planes.
 pub fn read_doubles(planes: &[u8], n: usize, at: usize, readings: &mut [u64])
     requires { Room 8 n at (length readings.old) (length planes.now) }
     ensures { readings.new ≡ fetched 8 n at (length readings.old) planes.now }
 {
-    let mut low = [0u32; 512];
-    let mut high = [0u32; 512];
-    let mut lows = [0u16; 512];
-    let mut highs = [0u16; 512];
-    let mut a: usize = 0;
-    while a < readings.len() {
-        let e = a + loops::at_most(readings.len() - a, 512);
-        read_double_block(
-            planes,
-            n,
-            at + a,
-            &mut low[0..512],
-            &mut high[0..512],
-            &mut lows[0..512],
-            &mut highs[0..512],
-            &mut readings[a..e],
-        );
-        a = e;
-    }
+    u64::read(planes, n, at, readings);
 }

@@ -2,9 +2,9 @@
 use mathlib.Core.Path.{◌∙◌}
 use lib.ListN.{length}
 use Rattle.array_planes.proofs.Places.{fetched_pairs}
-use Rattle.array_planes.proofs.read_pairs.Goals as goal
+use Rattle.array_planes.proofs.U16Planes.read.Goals as goal
 
 pub returns : goal.returns
 returns c =
     let s = c.args in
-    c.join_bytes.ensures ∙ fetched_pairs s.n s.at (length s.pairs.now) s.planes.now
+    c.join.ensures ∙ fetched_pairs s.n s.at (length s.numbers.now) s.planes.now
