@@ -10,145 +10,176 @@ ghost use Rattle.array_planes.specs.Places.{stored, fetched, Room};
 
 use array_halves::{Halves, Number};
 
-// As many numbers go by halves at once: what they need stays in the nearest cache.
+// As many readings go by halves at once: they stay in the nearest cache.
 const BLOCK: usize = 512;
 
-// A number whose bytes stand in planes.
+// A number whose bytes stand in planes. A block is written and read by its halves, and they by theirs, in lent room: with room of its own each level would be cleared for each block.
 trait Planes: Number {
-    // Writes numbers to their planes.
-    fn write(numbers: &[Self], planes: &mut [u8], n: usize, at: usize)
-        requires { (length numbers.now ≤ n) × Room Self.BYTES n at (length numbers.now) (length planes.old) }
-        ensures { planes.new ≡ stored Self.BYTES n at (length numbers.now) (map Self.value numbers.now) planes.old };
+    // Room for the halves of a block that is written, and for those of one that is read.
+    type WriteRoom;
+    type ReadRoom;
 
-    // Reads numbers from their planes.
-    fn read(planes: &[u8], n: usize, at: usize, numbers: &mut [Self])
-        requires { Room Self.BYTES n at (length numbers.old) (length planes.now) }
-        ensures { map Self.value numbers.new ≡ fetched Self.BYTES n at (length numbers.old) planes.now };
+    // Writes a block to its planes.
+    fn write(block: &[Self], planes: &mut [u8], n: usize, at: usize, room: &mut Self::WriteRoom)
+        requires block { (length block.now ≤ BLOCK) × (length block.now ≤ n) }
+        requires room { Room Self.BYTES n at (length block.now) (length planes.old) }
+        ensures { planes.new ≡ stored Self.BYTES n at (length block.now) (map Self.value block.now) planes.old };
+
+    // Reads a block from its planes.
+    fn read(planes: &[u8], n: usize, at: usize, block: &mut [Self], room: &mut Self::ReadRoom)
+        requires block { length block.old ≤ BLOCK }
+        requires room { Room Self.BYTES n at (length block.old) (length planes.now) }
+        ensures { map Self.value block.new ≡ fetched Self.BYTES n at (length block.old) planes.now };
 
     // There is a plane.
     ghost some_bytes: { 0 < Self.BYTES };
 }
 
-// A pair's bytes are its halves: they go straight to the planes and come straight from there.
+// A pair's halves are bytes: they need no room.
 impl Planes for u16 {
+    type WriteRoom = ();
+    type ReadRoom = ();
+
     ghost some_bytes = { Prim.search rules };
 
-    fn write(numbers: &[u16], planes: &mut [u8], n: usize, at: usize) {
-        let to = at + numbers.len();
-        array_halves::cut(numbers, 0, &mut planes[at..to]);
-        array_halves::cut(numbers, 1, &mut planes[n + at..n + to]);
+    fn write(block: &[u16], planes: &mut [u8], n: usize, at: usize, _room: &mut ()) {
+        let to = at + block.len();
+        array_halves::cut(block, 0, &mut planes[at..to]);
+        array_halves::cut(block, 1, &mut planes[n + at..n + to]);
     }
 
-    fn read(planes: &[u8], n: usize, at: usize, numbers: &mut [u16]) {
-        let to = at + numbers.len();
-        array_halves::join(&planes[at..to], &planes[n + at..n + to], numbers);
+    fn read(planes: &[u8], n: usize, at: usize, block: &mut [u16], _room: &mut ()) {
+        let to = at + block.len();
+        array_halves::join(&planes[at..to], &planes[n + at..n + to], block);
     }
 }
 
 impl Planes for u32 {
+    type WriteRoom = [u16; BLOCK];
+    type ReadRoom = ([u16; BLOCK], [u16; BLOCK]);
+
     ghost some_bytes = { Prim.search rules };
 
-    fn write(numbers: &[u32], planes: &mut [u8], n: usize, at: usize) {
-        write_halves(numbers, planes, n, at, &mut [0u16; BLOCK]);
+    fn write(block: &[u32], planes: &mut [u8], n: usize, at: usize, room: &mut [u16; BLOCK]) {
+        write_halves(block, planes, n, at, room, &mut ());
     }
 
-    fn read(planes: &[u8], n: usize, at: usize, numbers: &mut [u32]) {
-        read_halves(planes, n, at, &mut [0u16; BLOCK], &mut [0u16; BLOCK], numbers);
+    fn read(
+        planes: &[u8],
+        n: usize,
+        at: usize,
+        block: &mut [u32],
+        room: &mut ([u16; BLOCK], [u16; BLOCK]),
+    ) {
+        read_halves(planes, n, at, block, &mut room.0, &mut room.1, &mut ());
     }
 }
 
 impl Planes for u64 {
+    type WriteRoom = ([u32; BLOCK], [u16; BLOCK]);
+    type ReadRoom = ([u32; BLOCK], [u32; BLOCK], ([u16; BLOCK], [u16; BLOCK]));
+
     ghost some_bytes = { Prim.search rules };
 
-    fn write(numbers: &[u64], planes: &mut [u8], n: usize, at: usize) {
-        write_halves(numbers, planes, n, at, &mut [0u32; BLOCK]);
+    fn write(
+        block: &[u64],
+        planes: &mut [u8],
+        n: usize,
+        at: usize,
+        room: &mut ([u32; BLOCK], [u16; BLOCK]),
+    ) {
+        write_halves(block, planes, n, at, &mut room.0, &mut room.1);
     }
 
-    fn read(planes: &[u8], n: usize, at: usize, numbers: &mut [u64]) {
-        read_halves(planes, n, at, &mut [0u32; BLOCK], &mut [0u32; BLOCK], numbers);
+    fn read(
+        planes: &[u8],
+        n: usize,
+        at: usize,
+        block: &mut [u64],
+        room: &mut ([u32; BLOCK], [u32; BLOCK], ([u16; BLOCK], [u16; BLOCK])),
+    ) {
+        read_halves(planes, n, at, block, &mut room.0, &mut room.1, &mut room.2);
     }
 }
 
-// ---- a block, as long as there is room for its halves
+// ---- a block by its halves
 
-// Writes a block: the planes of the low halves, then those of the high ones. They stand in lent room in between.
-fn write_block<Half: Planes, Whole: Halves<Half>>(
+// Writes a block: the planes of the low halves, then those of the high ones.
+fn write_halves<Half: Planes, Whole: Halves<Half>>(
     block: &[Whole],
     planes: &mut [u8],
     n: usize,
     at: usize,
     halves: &mut [Half],
+    room: &mut Half::WriteRoom,
 )
-    requires block { (length block.now ≡ length halves.old) × (length block.now ≤ n) }
+    requires block { (length block.now ≤ BLOCK) × (length block.now ≤ n) }
+    requires halves { length halves.old ≡ BLOCK }
     requires room { Room (Half.BYTES + Half.BYTES) n at (length block.now) (length planes.old) }
     ensures { planes.new ≡ stored (Half.BYTES + Half.BYTES) n at (length block.now) (map Whole.value block.now) planes.old }
 {
     let bytes = Half::BYTES;
+    let halves = &mut halves[..block.len()];
     array_halves::cut(block, 0, halves);
-    Half::write(halves, planes, n, at);
+    Half::write(halves, planes, n, at, room);
     array_halves::cut(block, bytes, halves);
-    Half::write(halves, planes, n, bytes * n + at);
+    Half::write(halves, planes, n, bytes * n + at, room);
 }
 
-// Reads a block: the low halves from their planes, then the high ones from theirs. They stand in lent room in between.
-fn read_block<Half: Planes, Whole: Halves<Half>>(
+// Reads a block: the low halves from their planes, then the high ones from theirs.
+fn read_halves<Half: Planes, Whole: Halves<Half>>(
     planes: &[u8],
     n: usize,
     at: usize,
+    block: &mut [Whole],
     low: &mut [Half],
     high: &mut [Half],
-    block: &mut [Whole],
+    room: &mut Half::ReadRoom,
 )
-    requires block { (length block.old ≡ length low.old) × (length block.old ≡ length high.old) }
+    requires block { length block.old ≤ BLOCK }
+    requires halves { (length low.old ≡ BLOCK) × (length high.old ≡ BLOCK) }
     requires room { Room (Half.BYTES + Half.BYTES) n at (length block.old) (length planes.now) }
     ensures { map Whole.value block.new ≡ fetched (Half.BYTES + Half.BYTES) n at (length block.old) planes.now }
 {
-    Half::read(planes, n, at, low);
-    Half::read(planes, n, Half::BYTES * n + at, high);
+    let low = &mut low[..block.len()];
+    let high = &mut high[..block.len()];
+    Half::read(planes, n, at, low, room);
+    Half::read(planes, n, Half::BYTES * n + at, high, room);
     array_halves::join(low, high, block);
 }
 
 // ---- any number of readings, block by block
 
-fn write_halves<Half: Planes, Whole: Halves<Half>>(
-    numbers: &[Whole],
+fn write_blocks<Reading: Planes>(
+    readings: &[Reading],
     planes: &mut [u8],
     n: usize,
     at: usize,
-    halves: &mut [Half],
+    room: &mut Reading::WriteRoom,
 )
-    requires block { (length halves.old ≡ BLOCK) × (length numbers.now ≤ n) }
-    requires room { Room (Half.BYTES + Half.BYTES) n at (length numbers.now) (length planes.old) }
-    ensures { planes.new ≡ stored (Half.BYTES + Half.BYTES) n at (length numbers.now) (map Whole.value numbers.now) planes.old }
+    requires readings { length readings.now ≤ n }
+    requires room { Room Reading.BYTES n at (length readings.now) (length planes.old) }
+    ensures { planes.new ≡ stored Reading.BYTES n at (length readings.now) (map Reading.value readings.now) planes.old }
 {
-    for start in (0..numbers.len()).step_by(BLOCK) {
-        let k = BLOCK.min(numbers.len() - start);
-        write_block(&numbers[start..start + k], planes, n, at + start, &mut halves[..k]);
+    for start in (0..readings.len()).step_by(BLOCK) {
+        let end = start + BLOCK.min(readings.len() - start);
+        Reading::write(&readings[start..end], planes, n, at + start, room);
     }
 }
 
-fn read_halves<Half: Planes, Whole: Halves<Half>>(
+fn read_blocks<Reading: Planes>(
     planes: &[u8],
     n: usize,
     at: usize,
-    low: &mut [Half],
-    high: &mut [Half],
-    numbers: &mut [Whole],
+    readings: &mut [Reading],
+    room: &mut Reading::ReadRoom,
 )
-    requires block { (length low.old ≡ BLOCK) × (length high.old ≡ BLOCK) }
-    requires room { Room (Half.BYTES + Half.BYTES) n at (length numbers.old) (length planes.now) }
-    ensures { map Whole.value numbers.new ≡ fetched (Half.BYTES + Half.BYTES) n at (length numbers.old) planes.now }
+    requires { Room Reading.BYTES n at (length readings.old) (length planes.now) }
+    ensures { map Reading.value readings.new ≡ fetched Reading.BYTES n at (length readings.old) planes.now }
 {
-    for start in (0..numbers.len()).step_by(BLOCK) {
-        let k = BLOCK.min(numbers.len() - start);
-        read_block(
-            planes,
-            n,
-            at + start,
-            &mut low[..k],
-            &mut high[..k],
-            &mut numbers[start..start + k],
-        );
+    for start in (0..readings.len()).step_by(BLOCK) {
+        let end = start + BLOCK.min(readings.len() - start);
+        Reading::read(planes, n, at + start, &mut readings[start..end], room);
     }
 }
 
@@ -159,7 +190,7 @@ pub fn write_singles(readings: &[u32], planes: &mut [u8], n: usize, at: usize)
     requires { (length readings.now ≤ n) × Room 4 n at (length readings.now) (length planes.old) }
     ensures { planes.new ≡ stored 4 n at (length readings.now) readings.now planes.old }
 {
-    u32::write(readings, planes, n, at);
+    write_blocks(readings, planes, n, at, &mut [0; BLOCK]);
 }
 
 // Reads singles from 4 planes.
@@ -167,7 +198,7 @@ pub fn read_singles(planes: &[u8], n: usize, at: usize, readings: &mut [u32])
     requires { Room 4 n at (length readings.old) (length planes.now) }
     ensures { readings.new ≡ fetched 4 n at (length readings.old) planes.now }
 {
-    u32::read(planes, n, at, readings);
+    read_blocks(planes, n, at, readings, &mut ([0; BLOCK], [0; BLOCK]));
 }
 
 // Writes doubles to 8 planes.
@@ -175,7 +206,7 @@ pub fn write_doubles(readings: &[u64], planes: &mut [u8], n: usize, at: usize)
     requires { (length readings.now ≤ n) × Room 8 n at (length readings.now) (length planes.old) }
     ensures { planes.new ≡ stored 8 n at (length readings.now) readings.now planes.old }
 {
-    u64::write(readings, planes, n, at);
+    write_blocks(readings, planes, n, at, &mut ([0; BLOCK], [0; BLOCK]));
 }
 
 // Reads doubles from 8 planes.
@@ -183,5 +214,5 @@ pub fn read_doubles(planes: &[u8], n: usize, at: usize, readings: &mut [u64])
     requires { Room 8 n at (length readings.old) (length planes.now) }
     ensures { readings.new ≡ fetched 8 n at (length readings.old) planes.now }
 {
-    u64::read(planes, n, at, readings);
+    read_blocks(planes, n, at, readings, &mut ([0; BLOCK], [0; BLOCK], ([0; BLOCK], [0; BLOCK])));
 }

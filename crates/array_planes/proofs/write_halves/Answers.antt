@@ -1,15 +1,8 @@
--- Block after block.
-use Prim.Native.Nat.{◌+◌, ◌-◌}
-use native.Mathlib.Omega.{arith}
-use Rattle.array_planes.proofs.Blocks.{writing_turn, writing_end}
+-- The low halves, and then the high ones.
+use Rattle.array_planes.proofs.Places.{stored_block}
 use Rattle.array_planes.proofs.write_halves.Goals as goal
-
-pub loop-start-preserved : goal.loop-start-preserved
-loop-start-preserved g c =
-    let at = c.loop-start in
-    writing_turn g.Whole.Number.value (g.Half.Number.BYTES + g.Half.Number.BYTES) c.args.n c.args.at c.args.numbers.now c.args.planes.now at.planes at.start (omega arith) at.invariant c.requires.block.1 c.requires.room
-    (at.start + c.min-k.result - at.start) (omega arith) c.write_block.ensures
 
 pub returns : goal.returns
 returns g c =
-    writing_end g.Whole.Number.value (g.Half.Number.BYTES + g.Half.Number.BYTES) c.args.n c.args.at c.args.numbers.now c.args.planes.now c.loop-start.planes c.loop-start.start (omega arith) c.loop-start.invariant
+    stored_block g.Whole.Number.value g.Half.Number.value g.Half.Number.BYTES c.args.n c.args.at c.args.planes.now c.BYTES-bytes.result c.BYTES-bytes.ensures c.args.block.now c.cut.new.halves c.cut-2.new.halves
+    c.cut.ensures c.write.ensures c.cut-2.ensures c.write-2.ensures

@@ -7,4 +7,4 @@ use Rattle.array_planes.proofs.U16Planes.read.Goals as goal
 pub returns : goal.returns
 returns c =
     let s = c.args in
-    c.join.ensures ∙ fetched_pairs s.n s.at (length s.numbers.now) s.planes.now
+    c.join.ensures ∙ fetched_pairs s.n s.at (length s.block.now) s.planes.now
