@@ -4,9 +4,9 @@ use mathlib.Core.List.{List, [], ◌++◌, map, append_assoc, append-nil}
 use Prim.Native.Nat.{ℕ, zero, suc, ◌+◌, ◌-◌, ◌≤◌, ◌<◌, min}
 use native.Mathlib.Nat.{add-zero, sub-zero}
 use native.Mathlib.Omega.{arith}
-use lib.ListN.{length, take, drop, length-take, length-drop, length-map, take-append-drop, drop_of_length-le}
+use lib.ListN.{length, take, drop, length-drop, length-map, take-append-drop, drop_of_length-le}
 use lib.Seq.{take_all, drop-drop, length-take-le}
-use Rattle.std.proofs.lemmas.List.{map-append, take-map, drop-map}
+use Rattle.std.proofs.lemmas.List.{map-append}
 use Rattle.parts.proofs.Back.{back, length_back, take_back}
 use Rattle.array_planes.specs.Places.{stored, fetched, Room}
 use Rattle.array_planes.proofs.Places.{stored_length, stored_append, fetched_length, fetched_append}

@@ -17,6 +17,7 @@ const BLOCK: usize = 512;
 trait Planes: Number {
     // Room for the halves of a block that is written, and for those of one that is read.
     type WriteRoom;
+
     type ReadRoom;
 
     // Writes a block to its planes.
@@ -32,15 +33,16 @@ trait Planes: Number {
         ensures { map Self.value block.new ≡ fetched Self.BYTES n at (length block.old) planes.now };
 
     // There is a plane.
-    ghost some_bytes: { 0 < Self.BYTES };
+    ghost has_bytes: { 0 < Self.BYTES };
 }
 
 // A pair's halves are bytes: they need no room.
 impl Planes for u16 {
     type WriteRoom = ();
+
     type ReadRoom = ();
 
-    ghost some_bytes = { Prim.search rules };
+    ghost has_bytes = { Prim.search rules };
 
     fn write(block: &[u16], planes: &mut [u8], n: usize, at: usize, _room: &mut ()) {
         let to = at + block.len();
@@ -56,48 +58,32 @@ impl Planes for u16 {
 
 impl Planes for u32 {
     type WriteRoom = [u16; BLOCK];
+
     type ReadRoom = ([u16; BLOCK], [u16; BLOCK]);
 
-    ghost some_bytes = { Prim.search rules };
+    ghost has_bytes = { Prim.search rules };
 
-    fn write(block: &[u32], planes: &mut [u8], n: usize, at: usize, room: &mut [u16; BLOCK]) {
+    fn write(block: &[u32], planes: &mut [u8], n: usize, at: usize, room: &mut Self::WriteRoom) {
         write_halves(block, planes, n, at, room, &mut ());
     }
 
-    fn read(
-        planes: &[u8],
-        n: usize,
-        at: usize,
-        block: &mut [u32],
-        room: &mut ([u16; BLOCK], [u16; BLOCK]),
-    ) {
+    fn read(planes: &[u8], n: usize, at: usize, block: &mut [u32], room: &mut Self::ReadRoom) {
         read_halves(planes, n, at, block, &mut room.0, &mut room.1, &mut ());
     }
 }
 
 impl Planes for u64 {
-    type WriteRoom = ([u32; BLOCK], [u16; BLOCK]);
-    type ReadRoom = ([u32; BLOCK], [u32; BLOCK], ([u16; BLOCK], [u16; BLOCK]));
+    type WriteRoom = ([u32; BLOCK], <u32 as Planes>::WriteRoom);
 
-    ghost some_bytes = { Prim.search rules };
+    type ReadRoom = ([u32; BLOCK], [u32; BLOCK], <u32 as Planes>::ReadRoom);
 
-    fn write(
-        block: &[u64],
-        planes: &mut [u8],
-        n: usize,
-        at: usize,
-        room: &mut ([u32; BLOCK], [u16; BLOCK]),
-    ) {
+    ghost has_bytes = { Prim.search rules };
+
+    fn write(block: &[u64], planes: &mut [u8], n: usize, at: usize, room: &mut Self::WriteRoom) {
         write_halves(block, planes, n, at, &mut room.0, &mut room.1);
     }
 
-    fn read(
-        planes: &[u8],
-        n: usize,
-        at: usize,
-        block: &mut [u64],
-        room: &mut ([u32; BLOCK], [u32; BLOCK], ([u16; BLOCK], [u16; BLOCK])),
-    ) {
+    fn read(planes: &[u8], n: usize, at: usize, block: &mut [u64], room: &mut Self::ReadRoom) {
         read_halves(planes, n, at, block, &mut room.0, &mut room.1, &mut room.2);
     }
 }
@@ -214,5 +200,11 @@ pub fn read_doubles(planes: &[u8], n: usize, at: usize, readings: &mut [u64])
     requires { Room 8 n at (length readings.old) (length planes.now) }
     ensures { readings.new ≡ fetched 8 n at (length readings.old) planes.now }
 {
-    read_blocks(planes, n, at, readings, &mut ([0; BLOCK], [0; BLOCK], ([0; BLOCK], [0; BLOCK])));
+    read_blocks(
+        planes,
+        n,
+        at,
+        readings,
+        &mut ([0; BLOCK], [0; BLOCK], ([0; BLOCK], [0; BLOCK])),
+    );
 }

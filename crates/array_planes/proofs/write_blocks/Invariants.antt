@@ -1,4 +1,4 @@
-use Prim.Native.Nat.{◌+◌, ◌-◌, min}
+use Prim.Native.Nat.{◌-◌, min}
 use lib.ListN.{length}
 use Rattle.array_planes.proofs.Blocks.{Writing}
 use Rattle.array_planes.proofs.write_blocks.Given as goal
