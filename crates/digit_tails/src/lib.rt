@@ -13,7 +13,12 @@ fn subnormal_place(table: &[u64; 633], m: u64) -> usize
     requires { (0 < m) × (m < 0x0010_0000_0000_0000) × (table.now ≡ powers) }
     ensures { (result ≤ 632) × (decade 52 11 m ≡ result + 751) }
 {
-    table[..17].partition_point(|&power| power <= m) - 1
+    // Down from the largest, which most are near. `partition_point` in its place made the method a fifth slower on all doubles.
+    let mut r: usize = 16;
+    while m < table[r] {
+        r -= 1;
+    }
+    r
 }
 
 // The place in the table of the last power of ten that is not above a double. Its exponent field leaves two places, and one look at the table decides.
