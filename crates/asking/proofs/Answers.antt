@@ -1,9 +1,12 @@
 -- What each answer of the code says: an unknown method, a setting out of range, or a job that is accepted.
-use Rattle.std.proofs.Common.{◌≡◌, refl, ℕ, ◌<◌, ◌≤◌, ℤ, Bool, true, false, Some, None, arith}
+use Rattle.std.proofs.Common.{◌≡◌, ◌≢◌, refl, ℕ, ◌<◌, ◌≤◌, ℤ, Bool, true, false, Some, None, arith}
 use borrow.Author.Tests.{le-leb, lt-leb, eq-eqb}
 use Rattle.method.specs.declared.Method.{Method}
 use Rattle.method.specs.declared.Method.TheVariants.{Shave, Set, Groom, Halfshave, Round, Absolute, Digits}
 use Rattle.method.specs.Kinds.{number_of as method_number}
+use Rattle.refusal.specs.declared.Refusal.{Refusal}
+use Rattle.refusal.specs.declared.Refusal.TheVariants as refusals
+use Rattle.refusal.specs.Refusals.{number_of as refusal_number}
 use Rattle.meaning.specs.Questions.{setting_in_range}
 use Rattle.asking.specs.Asked.{refusal_of, number_of, asked_number, natural_setting}
 
@@ -41,3 +44,7 @@ module _ (F X method : ℕ) (s : ℤ) where
   pub asked_number_lem : refusal_of F X method s ≡ 0 → asked_number F X method s ≡ number_of F X method s
   unfolding asked_number
   asked_number_lem r = simp (eq-eqb (refusal_of F X method s) 0 r)
+
+-- a refusal's number tells that it is one
+pub never_zero : (r : Refusal) → refusal_number r ≢ 0
+never_zero r = grind arith
