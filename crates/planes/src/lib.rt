@@ -23,6 +23,7 @@ fn ask_planes(bytes: usize, each: usize, n: usize) -> Result<(), Refusal>
 // ---- singles
 
 // Writes the planes of an array of singles, lowest byte first. Refused with 13, and nothing written, unless there are exactly 4 bytes for each reading.
+#[tactic(auto, using(crate::proofs::Calls::to_refused, crate::proofs::Calls::to_done))]
 pub fn planes_of_singles(readings: &[u32], planes: &mut [u8]) -> Result<(), Refusal>
     ensures answer { answer_of result ≡ (to_planes 4 readings.now planes.old).answer }
     ensures content { planes.new ≡ (to_planes 4 readings.now planes.old).content }
@@ -34,6 +35,7 @@ pub fn planes_of_singles(readings: &[u32], planes: &mut [u8]) -> Result<(), Refu
 }
 
 // Writes the array of singles that stands in planes. Refused with 13, and nothing written, unless there are exactly 4 bytes for each reading.
+#[tactic(auto, using(crate::proofs::Calls::from_refused, crate::proofs::Calls::from_done))]
 pub fn singles_of_planes(planes: &[u8], readings: &mut [u32]) -> Result<(), Refusal>
     ensures answer { answer_of result ≡ (from_planes 4 planes.now readings.old).answer }
     ensures content { readings.new ≡ (from_planes 4 planes.now readings.old).content }
@@ -64,6 +66,7 @@ pub fn trim_planes_singles(
 // ---- doubles
 
 // Writes the planes of an array of doubles, lowest byte first. Refused with 13, and nothing written, unless there are exactly 8 bytes for each reading.
+#[tactic(auto, using(crate::proofs::Calls::to_refused, crate::proofs::Calls::to_done))]
 pub fn planes_of_doubles(readings: &[u64], planes: &mut [u8]) -> Result<(), Refusal>
     ensures answer { answer_of result ≡ (to_planes 8 readings.now planes.old).answer }
     ensures content { planes.new ≡ (to_planes 8 readings.now planes.old).content }
@@ -75,6 +78,7 @@ pub fn planes_of_doubles(readings: &[u64], planes: &mut [u8]) -> Result<(), Refu
 }
 
 // Writes the array of doubles that stands in planes. Refused with 13, and nothing written, unless there are exactly 8 bytes for each reading.
+#[tactic(auto, using(crate::proofs::Calls::from_refused, crate::proofs::Calls::from_done))]
 pub fn doubles_of_planes(planes: &[u8], readings: &mut [u64]) -> Result<(), Refusal>
     ensures answer { answer_of result ≡ (from_planes 8 planes.now readings.old).answer }
     ensures content { readings.new ≡ (from_planes 8 planes.now readings.old).content }
