@@ -10,6 +10,8 @@ ghost use Rattle.packing.specs.Answers.{answer_of, packed};
 ghost use Rattle.in_turn.specs.Lists.{calls_of, Promised};
 ghost use Rattle.in_turn.specs.Packed.{PackPromised};
 
+use refusal::Refusal;
+
 // How many calls two slices make.
 fn calls(methods: usize, settings: usize) -> usize
     ensures { result ≡ min methods settings }
@@ -73,7 +75,7 @@ pub fn in_turn_packed(
     codes: &mut [u16],
     references: &mut [f32],
     exponents: &mut [i32],
-) -> packing::Packed
+) -> Result<(), Refusal>
     ensures readings { readings.new ≡ in_turn 23 8 (calls_of methods.now settings.now) mark readings.old }
     ensures answer { answer_of result ≡ (packed mark length widths.now
         (in_turn 23 8 (calls_of methods.now settings.now) mark readings.old) codes.old references.old exponents.old).answer }
