@@ -3,18 +3,20 @@
 
 ghost use Rattle.std.specs.Prelude.{◌≡◌};
 ghost use Rattle.meaning.specs.Questions.{all, packable};
-ghost use Rattle.asking_readings.specs.Largest.{largest_present};
+ghost use Rattle.asking_readings.specs.Largest.{present_magnitude, largest_present};
+
+// A reading's magnitude, 0 where it is missing.
+fn present_magnitude(reading: u32, mark: u32) -> u32
+    ensures { result ≡ present_magnitude mark reading }
+{
+    if reading == mark { 0 } else { reading % 0x8000_0000 }
+}
 
 // The largest magnitude of the present readings, 0 where none is present.
 fn largest_magnitude(readings: &[u32], mark: u32) -> u32
     ensures { result ≡ largest_present mark readings.now }
 {
-    let mut most: u32 = 0;
-    for w in readings {
-        let m = summary::choose(*w, mark, 0, *w % 0x8000_0000);
-        most = summary::larger(m, most);
-    }
-    most
+    readings.iter().fold(0, |most, reading| most.max(present_magnitude(*reading, mark)))
 }
 
 // Question 6: is each reading finite or the mark?

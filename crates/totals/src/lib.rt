@@ -64,7 +64,7 @@ fn code_at(codes: &[u16], i: usize, missing: u16) -> u16
     codes.get(i).copied().unwrap_or(missing)
 }
 
-// Four sums: lane a takes the places 0, 4, 8 .., lane b the places 1, 5, 9 .., and so on.
+// Four sums: lane a takes the places 0, 4, 8 .., lane b the places 1, 5, 9 .., and so on. By name and no array: a loop over four lanes would be no plainer than four lines.
 #[derive(Clone, Copy)]
 pub struct Lanes {
     pub a: u32,
@@ -121,7 +121,7 @@ fn onward(i: usize) -> usize
     (i + 8) % 131072
 }
 
-// The present codes gathered in four lanes, place mod 4.
+// The present codes gathered in four lanes, place mod 4. The place is counted by hand, since how it goes on is chosen for the compiler, as `onward` says.
 fn gather(codes: &[u16], missing: u16) -> Lanes
     requires { length codes.now ≤ 65536 }
     ensures { Gathered (if_present missing) codes.now result }
