@@ -1,4 +1,4 @@
--- Question 6 by the largest magnitude of the present readings, and how it is found.
+-- Question 6 by the largest magnitude of the present readings, and the loop that finds it.
 use mathlib.Core.Path.{◌≡◌, refl, ap, ◌∙◌}
 use mathlib.Core.Bool.{Bool, true, false, cond, ◌&&◌, ◌||◌}
 use mathlib.Core.List.{List, [], ◌∷◌}
@@ -12,8 +12,7 @@ use lib.ListN.{length, get_or, drop, drop_of_length-le}
 use lib.Seq.{drop-cons}
 use Rattle.meaning.specs.Readings.{magnitude, infinity, finite, missing}
 use Rattle.meaning.specs.Questions.{all, packable}
-use Rattle.std.specs.List.{fold}
-use Rattle.asking_readings.specs.Largest.{present_magnitude, largest_present}
+use Rattle.asking_readings.specs.Largest.{largest_present}
 
 -- both of two numbers are below a third where the larger is
 max_below : (a b n : ℕ) → ltb (max a b) n ≡ ltb a n && ltb b n
@@ -47,12 +46,16 @@ all_finite mark (w ∷ ws) =
     max_below (cond (eqb w mark) 0 (w % 2147483648)) (largest_present mark ws) 2139095040
     ∙ ap (λ (b : Bool). b && ltb (largest_present mark ws) 2139095040) (one mark w) ∙ ap (λ (b : Bool). packable mark w && b) (all_finite mark ws)
 
--- ---- found in order
+-- ---- the loop: what the rest of the readings adds
 
-largest_from : (mark : ℕ) (most : ℕ) (ws : List ℕ) → fold (λ m w. max m (present_magnitude mark w)) most ws ≡ max most (largest_present mark ws)
+abbrev pub Turn : ℕ → List ℕ → ℕ → ℕ → Type 0
+Turn mark xs most i = max most (largest_present mark (drop i xs)) ≡ largest_present mark xs
+
+pub turn : (mark : ℕ) (xs : List ℕ) (most i m new : ℕ) → i < length xs → m ≡ cond (eqb (get_or xs i 0) mark) 0 (get_or xs i 0 % 2147483648) → new ≡ max m most → Turn mark xs most i
+    → Turn mark xs new (i + 1)
 unfolding largest_present
-largest_from mark most [] = omega arith
-largest_from mark most (w ∷ ws) = largest_from mark (max most (present_magnitude mark w)) ws ∙ omega arith
+turn mark xs most i m new h e n inv = rw add-one (omega (arith, rw (drop-cons xs i 0 h, ← e) at inv))
 
-pub in_order : (mark : ℕ) (ws : List ℕ) → fold (λ m w. max m (present_magnitude mark w)) 0 ws ≡ largest_present mark ws
-in_order mark ws = omega (arith, largest_from mark 0 ws)
+pub end : (mark : ℕ) (xs : List ℕ) (most i : ℕ) → length xs ≤ i → Turn mark xs most i → most ≡ largest_present mark xs
+unfolding largest_present
+end mark xs most i h inv = omega (arith, rw (drop_of_length-le xs h) at inv)
