@@ -3,7 +3,7 @@ use mathlib.Core.Path.{◌≡◌, sym, ap, ap₂, ◌∙◌, subst}
 use mathlib.Core.Logic.{◌⊎◌, inl, inr}
 use mathlib.Core.Bool.{Bool, true, false, ◌&&◌}
 use mathlib.Core.List.{List, [], ◌∷◌, ◌++◌, zip_with}
-use Prim.Native.Nat.{ℕ, suc, ◌+◌, ◌*◌, ◌/◌, ◌≤◌, ◌<◌}
+use Prim.Native.Nat.{ℕ, suc, min, ◌+◌, ◌*◌, ◌/◌, ◌≤◌}
 use native.Mathlib.Nat.{div-add-mod'}
 use native.Mathlib.Omega.{arith}
 use lib.Dec.{leb}
@@ -29,7 +29,7 @@ pub record Turn (L : ℕ) (ws cs : List ℕ) (size : ℕ) (whole : Bool) : Type 
   pub rest : all_known L ws cs ≡ whole
 
 -- one more layer
-module _ (L w size : ℕ) (us ws ds part cs : List ℕ) (whole : Bool) (before : Turn L us ds size whole) (width : us ≡ w ∷ ws) (codes : ds ≡ part ++ cs) (long : length part ≡ size) where
+module _ (L w size : ℕ) (us ws ds part cs : List ℕ) (whole : Bool) (before : Turn L us ds size whole) (width : us ≡ w ∷ ws) (codes : ds ≡ part ++ cs) (long : length part ≡ min size (length ds)) where
   turn : Turn L (w ∷ ws) (part ++ cs) size whole
   turn = subst (λ (x : List ℕ). Turn L x (part ++ cs) size whole) width (subst (λ (x : List ℕ). Turn L us x size whole) codes before)
 
@@ -37,7 +37,7 @@ module _ (L w size : ℕ) (us ws ds part cs : List ℕ) (whole : Bool) (before :
   all_codes = omega (arith, div-add-mod' (length (part ++ cs)) L, turn.fit.whole, ap (λ (n : ℕ). n * L) turn.fit.one_width)
 
   part_long : length part ≡ L
-  part_long = long ∙ turn.by
+  part_long = omega (arith, long, turn.by, all_codes, ap length codes)
 
   rest_long : length cs ≡ length ws * L + 0
   rest_long = omega (arith, all_codes, part_long, length-append part cs)
@@ -82,9 +82,9 @@ module _ (L w size : ℕ) (us ws ds part cs : List ℕ) (whole : Bool) (before :
         }
 
 -- no layer is left
-pub end : (L : ℕ) (ws cs : List ℕ) (size : ℕ) (whole : Bool) → Turn L ws cs size whole → (length ws ≡ 0) ⊎ (length cs < size) → true ≡ whole
+pub end : (L : ℕ) (ws cs : List ℕ) (size : ℕ) (whole : Bool) → Turn L ws cs size whole → (length ws ≡ 0) ⊎ (length cs ≡ 0) → true ≡ whole
 unfolding all zip_with
 end L [] cs size whole t h = t.rest
 end L (w ∷ ws) cs size whole t (inl h) = absurd (omega arith)
 end L (w ∷ ws) cs size whole t (inr h) =
-    absurd (omega (arith, h, t.by, div-add-mod' (length cs) L, t.fit.whole, ap (λ (n : ℕ). n * L) t.fit.one_width))
+    absurd (let e : length cs ≡ 0 * L + 0 = omega (arith, h) in omega (arith, ap (λ (n : ℕ). n / L) e ∙ div-mul-add 0 L 0 t.fit.some, t.fit.one_width))

@@ -19,7 +19,7 @@ pub fn all_known(codes: &[u16], run: usize, widths: &[u32]) -> bool
     requires { InLayers run widths.now codes.now }
     ensures { result ≡ all (λ good. good) (zip_with (λ w part. all (code_in_range w) part) widths.now (layers run codes.now)) }
 {
-    for (width, part) in widths.iter().zip(codes.chunks_exact(run)) {
+    for (width, part) in widths.iter().zip(codes.chunks(run)) {
         if layer_width::missing_of(*width) < bits_of(part) {
             return false;
         }

@@ -1,5 +1,5 @@
 use Rattle.std.specs.Iterator.Adapters.{zip_first, zip_second}
-use Rattle.std.specs.Slice.Iter.{iter_rest, chunks_exact_rest, chunks_exact_size}
+use Rattle.std.specs.Slice.Iter.{iter_rest, chunks_rest, chunks_size}
 use Rattle.asking_codes.proofs.Turns.{Turn, all_known}
 use Rattle.asking_codes.proofs.all_known.Given as goal
 
@@ -7,4 +7,4 @@ use Rattle.asking_codes.proofs.all_known.Given as goal
 abbrev pub invariant-loop-width : goal.invariant-loop-width
 invariant-loop-width l =
     let left = l.width-iterator in
-    Turn l.run (iter_rest (zip_first left)) (chunks_exact_rest (zip_second left)) (chunks_exact_size (zip_second left)) (all_known l.run l.widths l.codes)
+    Turn l.run (iter_rest (zip_first left)) (chunks_rest (zip_second left)) (chunks_size (zip_second left)) (all_known l.run l.widths l.codes)
