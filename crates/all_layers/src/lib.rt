@@ -9,6 +9,7 @@ ghost use Rattle.summary.specs.Summaries.{Packable};
 ghost use Rattle.all_layers.specs.Arrays.{Fit, packed_references, packed_exponents};
 
 // Packs the layers, runs of `run` readings, one after another, each by its own width into its own part of the codes. All lengths fit, and each reading is finite or missing.
+// What a layer has stands in three arrays, as C lends them. Its part is cut by hand: of a slice that `chunks_mut` lent, a proof knows the length alone.
 pub fn pack_layers(
     readings: &[u32],
     run: usize,

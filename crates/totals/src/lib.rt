@@ -16,11 +16,12 @@ pub struct Total {
 }
 
 // 1, or 0 where the code is the missing one.
+#[tactic(auto, unfolding(meaning::specs::Totals::one_present))]
 fn one_present(code: u16, missing: u16) -> u16
     ensures is { result ≡ one_present missing code }
     ensures small { result ≤ 1 }
 {
-    if code == missing { 0 } else { 1 }
+    u16::from(code != missing)
 }
 
 // The number of the present codes of half a layer. It fits in 16 bits, as a code does, so that the compiler counts eight codes at a time.
@@ -30,10 +31,8 @@ fn count_half(codes: &[u16], missing: u16) -> u16
     ensures small { result ≤ 32768 }
 {
     let mut count: u16 = 0;
-    let mut i: usize = 0;
-    while i < codes.len() {
-        count += one_present(codes[i], missing);
-        i += 1;
+    for code in codes {
+        count += one_present(*code, missing);
     }
     count
 }
@@ -50,6 +49,7 @@ fn count_present(codes: &[u16], missing: u16) -> u32
 }
 
 // The code, or 0 where it is the missing one.
+#[tactic(auto, unfolding(meaning::specs::Totals::if_present))]
 fn if_present(code: u16, missing: u16) -> u32
     ensures is { result ≡ if_present missing code }
     ensures small { result ≤ 65535 }
@@ -61,10 +61,10 @@ fn if_present(code: u16, missing: u16) -> u32
 fn code_at(codes: &[u16], i: usize, missing: u16) -> u16
     ensures { result ≡ value_at missing codes.now i }
 {
-    if i < codes.len() { codes[i] } else { missing }
+    codes.get(i).copied().unwrap_or(missing)
 }
 
-// Four sums: lane a takes the places 0, 4, 8 .., lane b the places 1, 5, 9 .., and so on.
+// Four sums: lane a takes the places 0, 4, 8 .., lane b the places 1, 5, 9 .., and so on. By name and no array: a loop over four lanes would be no plainer than four lines.
 #[derive(Clone, Copy)]
 pub struct Lanes {
     pub a: u32,
@@ -121,7 +121,7 @@ fn onward(i: usize) -> usize
     (i + 8) % 131072
 }
 
-// The present codes gathered in four lanes, place mod 4.
+// The present codes gathered in four lanes, place mod 4. The place is counted by hand, since how it goes on is chosen for the compiler, as `onward` says.
 fn gather(codes: &[u16], missing: u16) -> Lanes
     requires { length codes.now ≤ 65536 }
     ensures { Gathered (if_present missing) codes.now result }

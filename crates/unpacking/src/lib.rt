@@ -14,6 +14,7 @@ use decoding::LayerFloats;
 use refusal::Refusal;
 
 // Unpacks the layers, runs of `run` codes, one after another, each into its own part of the readings. All lengths fit, and every width, reference and exponent is known.
+// What a layer has stands in three arrays, as C lends them. Its part is cut by hand: of a slice that `chunks_mut` lent, a proof knows the length alone.
 fn unpack_layers(
     widths: &[u32],
     codes: &[u16],
