@@ -16,5 +16,5 @@ overflow_add-result c =
 pub returns : goal.returns
 returns c =
     let a = c.requires in
-    let it = field_done _ _ _ c.args.left _ _ a.0 a.1 c.put_number-p.ensures.value c.put_number-p.ensures.out_after _ c.ending_byte-c.ensures in
+    let it = field_done _ _ _ c.args.left _ _ a.0 a.1 c.put_number-p.ensures.value c.put_number-p.ensures.out_after _ c.ending_byte.ensures in
     record { value = it.0; out_after = it.1 }
