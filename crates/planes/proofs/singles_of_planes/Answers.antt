@@ -1,29 +1,19 @@
 -- Refused or done, by the laws of `Calls`.
-use mathlib.Core.Path.{sym, ◌∙◌}
-use Prim.Native.Nat.{◌*◌}
-use native.Mathlib.Omega.{arith}
-use borrow.Author.Tests.{eqb-true}
-use lib.ListN.{length}
-use Rattle.planes.specs.Answers.{answer_of}
+use Rattle.std.proofs.Common.{arith}
+use Rattle.std.proofs.lemmas.Result.{err_from_is_err_and}
 use Rattle.planes.proofs.Calls.{from_refused, from_done}
 use Rattle.planes.proofs.singles_of_planes.Goals as goal
 
-pub returns-then-not-planes_fit : goal.returns-then-not-planes_fit
-unfolding answer_of
-returns-then-not-planes_fit c =
-    let s = c.args in
-    let it = from_refused 4 s.readings.now s.planes.now (sym c.planes_fit.ensures ∙ c.if-not-planes_fit.true) in
-    record { answer = it.0; content = it.1 }
+pub returns-in_err-ask_planes : goal.returns-in_err-ask_planes
+returns-in_err-ask_planes c =
+    let p = err_from_is_err_and c.from_residual.result c.from_residual.ensures.1 in
+    let it = from_refused 4 c.args.readings.now c.args.planes.now c.in_err-ask_planes.ensures.1 in
+    rw (p.1, p.2, c.in_err-ask_planes.ensures.0) record { answer = it.0; content = it.1 }
 
 pub read_singles-requires : goal.read_singles-requires
-read_singles-requires c =
-    let s = c.args in
-    let l = eqb-true (length s.planes.now) (length s.readings.now * 4) (sym c.planes_fit.ensures ∙ c.if-not-planes_fit.false) in
-    omega (arith, l)
+read_singles-requires c = let l = c.in_ok-ask_planes.ensures in omega (arith, l)
 
 pub returns : goal.returns
-unfolding answer_of
 returns c =
-    let s = c.args in
-    let it = from_done 4 s.readings.now s.planes.now (sym c.planes_fit.ensures ∙ c.if-not-planes_fit.false) c.read_singles.ensures in
+    let it = from_done 4 c.args.readings.now c.args.planes.now c.in_ok-ask_planes.ensures c.read_singles.ensures in
     record { answer = it.0; content = it.1 }
