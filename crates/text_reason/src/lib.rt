@@ -5,13 +5,13 @@
 mod faults;
 mod words;
 
-// Says why a text got a refusal by this number.
+use words::Job;
+
+// Says why a text got a refusal by this number. Where the line can't be written the program goes on without it.
 pub fn say(rt: &impl Eprint, s: &[u8], number: u32) {
-    words::put_text(rt, "trimlist: ");
-    if number == 9 {
-        words::put_fault(rt, s, faults::fault_of(s));
-    } else {
-        words::put_job(rt, s, number);
-    }
-    words::put_text(rt, "\n");
+    let _ = match (number, faults::check(s)) {
+        (9, Err(fault)) => eprintln!(rt; "trimlist: {fault}"),
+        (9, Ok(())) => eprintln!(rt; "trimlist: the text doesn't have the form"),
+        _ => eprintln!(rt; "trimlist: {}", Job { text: s, is_known: number != 1 }),
+    };
 }
