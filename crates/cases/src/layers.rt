@@ -176,7 +176,7 @@ fn put_lengths(out: &mut Printer<'_, impl Print>, lengths: Lengths) {
     ));
 }
 
-// Packed as they are unpacked, references by their patterns.
+// Layers as they are unpacked, references by their patterns.
 #[derive(Clone, Copy)]
 struct Packed<'a> {
     widths: &'a [u32],
