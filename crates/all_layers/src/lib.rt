@@ -24,17 +24,12 @@ pub fn pack_layers(
     ensures references { map (to_bits binary32) references.new ≡ packed_references mark run widths.now readings.now }
     ensures exponents { exponents.new ≡ packed_exponents mark run widths.now readings.now }
 {
-    let mut from: usize = 0;
-    let mut i: usize = 0;
-    while i < references.len() {
+    let mut from = 0;
+    for (i, width) in widths.iter().enumerate() {
         let to = from + run;
-        let part = &readings[from..to];
-        let width = widths[i];
-        let layer = layering::pack_layer(part, mark, width, &mut codes[from..to]);
+        let layer = layering::pack_layer(&readings[from..to], mark, *width, &mut codes[from..to]);
         references[i] = layer.reference;
-        let x = layer.exponent;
-        exponents[i] = x;
+        exponents[i] = layer.exponent;
         from = to;
-        i += 1;
     }
 }

@@ -10,12 +10,9 @@ fn largest_magnitude(readings: &[u32], mark: u32) -> u32
     ensures { result ≡ largest_present mark readings.now }
 {
     let mut most: u32 = 0;
-    let mut i: usize = 0;
-    while i < readings.len() {
-        let w = readings[i];
-        let m = summary::choose(w, mark, 0, w % 0x8000_0000);
+    for w in readings {
+        let m = summary::choose(*w, mark, 0, *w % 0x8000_0000);
         most = summary::larger(m, most);
-        i += 1;
     }
     most
 }

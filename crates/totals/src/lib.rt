@@ -6,11 +6,13 @@ ghost use Rattle.meaning.specs.Totals.{in_order_sum, one_present, if_present, to
 ghost use Rattle.totals.specs.Answers.{answer_of};
 ghost use Rattle.totals.specs.Gathered.{value_at, Room, added, added_at, joined_of, Gathered};
 
-// The answer: how many codes are present, and their sum; or the refusal's number.
-#[derive(Clone, Copy)]
-pub enum Total {
-    Present { count: u32, sum: u32 },
-    Refused(u32),
+use refusal::Refusal;
+
+// How many codes are present, and their sum.
+#[derive(Clone, Copy, Debug, PartialEq, Eq)]
+pub struct Total {
+    pub count: u32,
+    pub sum: u32,
 }
 
 // 1, or 0 where the code is the missing one.
@@ -148,23 +150,23 @@ fn join_lanes(lanes: Lanes) -> u32
     lanes.a + lanes.b + lanes.c + lanes.d
 }
 
-// The totals of one layer's codes, of the given width. Or answers the refusal's number: 3 where there are no codes or more than 65,536, 11 for a width that isn't 2 to 16,
+// The totals of one layer's codes, of the given width. Or answers the refusal: 3 where there are no codes or more than 65,536, 11 for a width that isn't 2 to 16,
 // 12 for a code above the missing code of the width.
-pub fn totals(codes: &[u16], width: u32) -> Total
+pub fn totals(codes: &[u16], width: u32) -> Result<Total, Refusal>
     ensures { answer_of result ≡ totals width codes.now }
 {
     if !asking_layers::length_in_range(codes.len()) {
-        return Total::Refused(3);
+        return Err(Refusal::LengthOutOfRange);
     }
     if !asking_layers::width_in_range(width) {
-        return Total::Refused(11);
+        return Err(Refusal::WidthOutOfRange);
     }
     let missing = layer_width::missing_of(width);
     if missing < asking_codes::bits_of(codes) {
-        return Total::Refused(12);
+        return Err(Refusal::CodeOutOfRange);
     }
     let count = count_present(codes, missing);
     let lanes = gather(codes, missing);
     let sum = join_lanes(lanes);
-    Total::Present { count, sum }
+    Ok(Total { count, sum })
 }
