@@ -35,12 +35,6 @@ pub struct Compared {
     pub read: usize,
 }
 
-#[derive(Clone, Copy, Debug, PartialEq, Eq)]
-pub struct Total {
-    pub count: u32,
-    pub sum: u32,
-}
-
 fn counts_of(answer: trim::Answer) -> Result<Counts, Refusal> {
     match answer {
         trim::Answer::Counts {
@@ -72,27 +66,6 @@ pub fn trim_doubles(readings: &mut [u64], method: u32, setting: i32, mark: u64) 
 
 pub fn trim_planes_singles(planes: &mut [u8], n: usize, method: u32, setting: i32, mark: u32) -> Result<Counts, Refusal> {
     counts_of(planes::trim_planes_singles(planes, n, method, setting, mark))
-}
-
-pub fn pack(readings: &[u32], length: usize, mark: u32, widths: &[u32], codes: &mut [u16], references: &mut [f32], exponents: &mut [i32]) -> Result<(), Refusal> {
-    match packing::pack(readings, length, mark, widths, codes, references, exponents) {
-        packing::Packed::Done => Ok(()),
-        packing::Packed::Refused(n) => Err(refusal_of(n)),
-    }
-}
-
-pub fn unpack(widths: &[u32], codes: &[u16], references: &[f32], exponents: &[i32], length: usize, mark: u64, readings: &mut [u64]) -> Result<(), Refusal> {
-    match unpacking::unpack(widths, codes, references, exponents, length, mark, readings) {
-        unpacking::Unpacked::Done => Ok(()),
-        unpacking::Unpacked::Refused(n) => Err(refusal_of(n)),
-    }
-}
-
-pub fn totals(codes: &[u16], width: u32) -> Result<Total, Refusal> {
-    match totals::totals(codes, width) {
-        totals::Total::Present { count, sum } => Ok(Total { count, sum }),
-        totals::Total::Refused(n) => Err(refusal_of(n)),
-    }
 }
 
 fn compared_of(answer: beyond::Compared) -> Result<Compared, Refusal> {

@@ -1,7 +1,6 @@
 // The kinds of cases about packing and unpacking, with up to four readings. Each function runs a row's case on the library, prints it, and answers whether it is right.
 ghost use Rattle.std.specs.Prelude.{◌≤◌};
 
-use crate::answers;
 use crate::trims::number_of;
 use refusal::Refusal;
 use table::fields::{Items, MARK, MARK_DOUBLE, Row};
@@ -66,7 +65,7 @@ fn pack(
     let mut codes = [before; 4];
     let mut references = [before as f32; 4];
     let mut exponents = [before as i32; 4];
-    let answer = answers::pack(
+    let answer = packing::pack(
         readings,
         length,
         MARK,
@@ -200,7 +199,7 @@ fn unpack(
         let _ = references.try_push(value(*reference));
     }
     let mut readings = [before as u64; 4];
-    let answer = answers::unpack(
+    let answer = unpacking::unpack(
         layers.widths,
         layers.codes,
         references.as_slice(),

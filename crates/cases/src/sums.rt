@@ -1,8 +1,8 @@
 // The kind of cases about the totals of a layer, with up to four codes. The function `number` runs a row's case on the library, prints it, and answers whether it is right.
-use crate::answers::{Total, totals};
 use refusal::Refusal;
 use table::fields::Row;
 use table::line::Printer;
+use totals::Total;
 
 // What a call answers, or has to: the refusal's number, how many codes are present, and their sum.
 #[derive(Clone, Copy, Debug, PartialEq, Eq)]
@@ -58,7 +58,7 @@ pub fn number(out: &mut Printer<'_, impl Print>, row: Row<'_>) -> bool {
     let width = row.width(2);
     let codes = row.codes(3);
     let expected = Summed::expected(row);
-    let got = Summed::of(totals(codes.as_slice(), width));
+    let got = Summed::of(totals::totals(codes.as_slice(), width));
     out.start_list(row);
     out.put(format_args!(" width {width} codes"));
     out.numbers(codes.as_slice());

@@ -30,7 +30,8 @@ pub fn number(s: &[u8], base: u64) -> u64
     let mut value: u64 = 0;
     for byte in s {
         if *byte != b' ' {
-            value = value % 0x1000_0000_0000_0000 * base + (fields_in::digit(*byte) % 16) as u64;
+            let digit = fields_in::digit(*byte).unwrap_or(0);
+            value = value % 0x1000_0000_0000_0000 * base + digit as u64;
         }
     }
     value
@@ -47,10 +48,7 @@ fn single_of(s: &[u8]) -> u32 {
 
 // A setting or a step exponent, as a setting stands in the program's text.
 fn signed_of(s: &[u8]) -> i32 {
-    match fields_in::setting_at(s, 0) {
-        fields_in::Setting::Is { value, next: _ } => value,
-        fields_in::Setting::NoSetting => 0,
-    }
+    fields_in::setting_at(s, 0).map_or(0, |read| read.value)
 }
 
 fn width_of(s: &[u8]) -> u32 {
@@ -63,11 +61,10 @@ fn code_of(s: &[u8]) -> u16 {
 
 // A method's number by its name, or as `method 7`.
 fn method_of(s: &[u8]) -> u32 {
-    let known = method_word::method_of(s, 0, s.len());
-    if known < 7 {
-        return known;
+    match method_word::method_of(s, 0, s.len()) {
+        Some(method) => method.number(),
+        None => low(number(part(s, 1, b' '), 10)),
     }
-    low(number(part(s, 1, b' '), 10))
 }
 
 // A line of a sheet.

@@ -23,7 +23,8 @@ pub enum Form {
 
 // Digits of the base, and nothing else.
 fn digits(s: &[u8], base: u32) -> bool {
-    s.iter().all(|byte| fields_in::digit(*byte) < base)
+    s.iter()
+        .all(|byte| fields_in::digit(*byte).is_some_and(|digit| digit < base))
 }
 
 fn so_many(s: &[u8], n: usize, base: u32) -> bool {
@@ -40,10 +41,7 @@ fn up_to(s: &[u8], most: u64) -> bool {
 }
 
 fn is_integer(s: &[u8]) -> bool {
-    match fields_in::setting_at(s, 0) {
-        fields_in::Setting::Is { value: _, next } => next == s.len(),
-        fields_in::Setting::NoSetting => false,
-    }
+    fields_in::setting_at(s, 0).is_some_and(|read| read.next == s.len())
 }
 
 // `method` and a number that fits in 32 bits.
@@ -54,7 +52,7 @@ fn is_numbered(s: &[u8]) -> bool {
 }
 
 fn is_method(s: &[u8]) -> bool {
-    method_word::method_of(s, 0, s.len()) < 7 || is_numbered(s)
+    method_word::method_of(s, 0, s.len()).is_some() || is_numbered(s)
 }
 
 // Sign, exponent and fraction of a single.

@@ -64,17 +64,11 @@ fn is_word(field: &[u8]) -> bool {
 }
 
 fn is_setting(field: &[u8]) -> bool {
-    match fields_in::setting_at(field, 0) {
-        fields_in::Setting::Is { value: _, next } => next == field.len(),
-        fields_in::Setting::NoSetting => false,
-    }
+    fields_in::setting_at(field, 0).is_some_and(|read| read.next == field.len())
 }
 
 fn is_pattern(field: &[u8]) -> bool {
-    match fields_in::pattern_at(field, 0) {
-        fields_in::Pattern::At(_) => field.len() == 8,
-        fields_in::Pattern::Bad => false,
-    }
+    field.len() == 8 && fields_in::pattern_at(field, 0).is_some()
 }
 
 fn check_pattern(field: &[u8]) -> Result<(), Reason<'_>> {

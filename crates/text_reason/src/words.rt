@@ -1,5 +1,6 @@
 // The words of a reason.
 use crate::faults::{Fault, Reason, until};
+use method::Method;
 use std::fmt;
 
 // A byte of the text as it may stand on a terminal.
@@ -112,10 +113,10 @@ impl fmt::Display for Reason<'_> {
 }
 
 // Which settings a method takes.
-fn range(method: u32) -> &'static str {
+fn range(method: Option<Method>) -> &'static str {
     match method {
-        5 => "a step's exponent from -149 to 127",
-        6 => "1 to 7 digits",
+        Some(Method::Absolute) => "a step's exponent from -149 to 127",
+        Some(Method::Digits) => "1 to 7 digits",
         _ => "0 to 23 keep bits",
     }
 }
