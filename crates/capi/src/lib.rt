@@ -16,6 +16,9 @@ ghost use Rattle.planes.specs.Answers as planes;
 ghost use Rattle.totals.specs.Answers as totalled;
 ghost use Rattle.capi.specs.ForC.{number_for_c, counts_for_c, found_for_c, totals_for_c};
 
+use refusal::Refusal;
+use totals::Total;
+
 // An answer in C's form.
 fn hand_over(answer: trim::Answer, counts: &mut [u64; 6]) -> u32
     ensures number { result ≡ number_for_c (answer_of answer) }
@@ -137,12 +140,13 @@ pub extern "C" fn megharutti_first_beyond_doubles(
     hand_place(answer, found)
 }
 
-fn packed_number(answer: packing::Packed) -> u32
+#[tactic(auto, unfolding(crate::specs::ForC::number_for_c))]
+fn packed_number(answer: Result<(), Refusal>) -> u32
     ensures { result ≡ number_for_c (packing.answer_of answer) }
 {
     match answer {
-        packing::Packed::Done => 0,
-        packing::Packed::Refused(n) => n,
+        Ok(()) => 0,
+        Err(refusal) => refusal.number(),
     }
 }
 
@@ -166,12 +170,13 @@ pub extern "C" fn megharutti_pack(
     packed_number(answer)
 }
 
-fn unpacked_number(answer: unpacking::Unpacked) -> u32
+#[tactic(auto, unfolding(crate::specs::ForC::number_for_c))]
+fn unpacked_number(answer: Result<(), Refusal>) -> u32
     ensures { result ≡ number_for_c (unpacking.answer_of answer) }
 {
     match answer {
-        unpacking::Unpacked::Done => 0,
-        unpacking::Unpacked::Refused(n) => n,
+        Ok(()) => 0,
+        Err(refusal) => refusal.number(),
     }
 }
 
@@ -194,16 +199,17 @@ pub extern "C" fn megharutti_unpack(
 }
 
 // A layer's totals in C's form.
-fn hand_totals(answer: totals::Total, out: &mut [u64; 2]) -> u32
+#[tactic(auto, unfolding(crate::specs::ForC::number_for_c, crate::specs::ForC::totals_for_c))]
+fn hand_totals(answer: Result<Total, Refusal>, out: &mut [u64; 2]) -> u32
     ensures number { result ≡ number_for_c (totalled.answer_of answer) }
     ensures totals { out.new ≡ totals_for_c (totalled.answer_of answer) out.old }
 {
     match answer {
-        totals::Total::Present { count, sum } => {
+        Ok(Total { count, sum }) => {
             *out = [count as u64, sum as u64];
             0
         }
-        totals::Total::Refused(n) => n,
+        Err(refusal) => refusal.number(),
     }
 }
 
