@@ -2,12 +2,12 @@
 // runs a row's case on the library, prints it, and answers whether it is right.
 ghost use Rattle.std.specs.Prelude.{◌≤◌};
 
-use crate::answers::{Counts, trim_planes_singles, trim_singles};
 use crate::trims::number_of;
 use refusal::Refusal;
 use table::call::Call;
 use table::fields::{MARK, Row};
 use table::line::Printer;
+use trim::Counts;
 
 // The planes, each as its four bytes stand, the first one first.
 fn each_plane(planes: [u8; 16]) -> [u32; 4] {
@@ -31,7 +31,7 @@ struct InPlanes {
 fn in_planes(readings: [u32; 4], call: Call, missing: u32) -> InPlanes {
     let mut planes = [0u8; 16];
     let _ = planes::planes_of_singles(&readings, &mut planes);
-    let answer = trim_planes_singles(&mut planes, 4, call.method, call.setting, missing);
+    let answer = planes::trim_planes_singles(&mut planes, 4, call.method, call.setting, missing);
     let mut back = [0u32; 4];
     let _ = planes::singles_of_planes(&planes, &mut back);
     InPlanes {
@@ -44,7 +44,7 @@ fn in_planes(readings: [u32; 4], call: Call, missing: u32) -> InPlanes {
 // The same trim of the array.
 fn in_array(readings: [u32; 4], call: Call, missing: u32) -> [u32; 4] {
     let mut left = readings;
-    let _ = trim_singles(&mut left, call.method, call.setting, missing);
+    let _ = trim::trim_singles(&mut left, call.method, call.setting, missing);
     left
 }
 
@@ -76,7 +76,7 @@ fn asked_of(n: usize, told: u64, call: Call) -> Result<Counts, Refusal>
     requires { n ≤ 20 }
 {
     let mut planes = [0u8; 20];
-    trim_planes_singles(&mut planes[..n], told as usize, call.method, call.setting, MARK)
+    planes::trim_planes_singles(&mut planes[..n], told as usize, call.method, call.setting, MARK)
 }
 
 // The questions of trimming in planes: a buffer of whole readings and more bytes, and the number of readings that is told.

@@ -1,6 +1,6 @@
 // The kinds of cases about the first reading beyond a limit, with up to four readings in each array. Each function runs a row's case on the library, prints it, and answers
 // whether it is right.
-use crate::answers::{Compared, first_beyond_doubles, first_beyond_singles};
+use beyond::Compared;
 use refusal::Refusal;
 use table::fields::Row;
 use table::line::Printer;
@@ -70,7 +70,7 @@ pub fn exceeds(out: &mut Printer<'_, impl Print>, row: Row<'_>) -> bool {
     let raw = row.singles(3);
     let trimmed = row.singles(4);
     let missing = row.mark(5);
-    let answer = first_beyond_singles(raw.as_slice(), trimmed.as_slice(), missing, p);
+    let answer = beyond::first_beyond_singles(raw.as_slice(), trimmed.as_slice(), missing, p);
     out.start_list(row);
     out.singles(raw.as_slice());
     out.put(" beside");
@@ -86,7 +86,7 @@ pub fn outside(out: &mut Printer<'_, impl Print>, row: Row<'_>) -> bool {
     let raw = row.doubles(3);
     let trimmed = row.doubles(4);
     let missing = row.mark_double(5);
-    let answer = first_beyond_doubles(raw.as_slice(), trimmed.as_slice(), missing, p);
+    let answer = beyond::first_beyond_doubles(raw.as_slice(), trimmed.as_slice(), missing, p);
     out.start_list(row);
     out.doubles(raw.as_slice());
     out.put(" beside");

@@ -6,7 +6,6 @@
 
 ghost use Rattle.std.specs.Prelude.{◌≤◌, length};
 
-mod answers;
 mod grouped;
 mod kinds;
 mod layers;

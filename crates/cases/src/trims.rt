@@ -1,10 +1,10 @@
 // The kinds of cases about trimming. Each function runs a row's case on the library, prints it, and answers whether it is right.
-use crate::answers::{Counts, trim_doubles, trim_singles};
 use refusal::Refusal;
 use std::cmp::Ordering;
 use table::fate::Fate;
 use table::fields::{MARK, MARK_DOUBLE, Row};
 use table::line::Printer;
+use trim::{Counts, trim_doubles, trim_singles};
 
 const PI: u32 = 0x40490FDB;
 

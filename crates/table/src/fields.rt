@@ -1,5 +1,5 @@
 // What stands in a row: fields parted by bars, counted from 0, and in some of them lists of up to four items parted by spaces. What a row doesn't have is empty, and 0.
-ghost use Rattle.std.specs.Prelude.{◌≤◌};
+ghost use Rattle.std.specs.Prelude.{◌<◌, ◌≤◌, IfSome};
 
 use crate::call::Call;
 use crate::fate::Fate;
@@ -113,7 +113,9 @@ impl<'a> Row<'a> {
     }
 
     // A refusal's number, which need be none that there is.
-    pub fn refusal(self, k: usize) -> Option<u32> {
+    pub fn refusal(self, k: usize) -> Option<u32>
+        ensures { IfSome result (λ number. 0 < number) }
+    {
         match low(self.decimal(k)) {
             0 => None,
             number => Some(number),

@@ -1,4 +1,6 @@
 // The lines of the table.
+ghost use Rattle.std.specs.Prelude.{◌≡◌, ◌↔◌, IsTrue, false, MatchResult};
+
 use crate::call::Call;
 use crate::fate::Fate;
 use crate::faults::{Fault, Reason};
@@ -12,6 +14,7 @@ pub struct Printer<'a, P: Print> {
     column: usize,
 }
 
+// By hand, since a derive would ask it of P too.
 impl<P: Print> Drop for Printer<'_, P> {
     fn drop(self) {
         let Printer { out: _, column: _ } = self;
@@ -127,7 +130,9 @@ impl<'a, P: Print> Printer<'a, P> {
     }
 
     // Ends a case's line with the verdict, what the library's counts say, and the note.
-    pub fn judge_fate(&mut self, row: Row<'_>, ok: bool, fate: Fate) -> bool {
+    pub fn judge_fate(&mut self, row: Row<'_>, ok: bool, fate: Fate) -> bool
+        ensures { result ≡ ok }
+    {
         self.put(if ok { "ok" } else { "WRONG" });
         self.put(fate);
         self.put_bytes(row.note());
@@ -136,12 +141,16 @@ impl<'a, P: Print> Printer<'a, P> {
     }
 
     // Ends a case's line with the verdict and the note.
-    pub fn judge(&mut self, row: Row<'_>, ok: bool) -> bool {
+    pub fn judge(&mut self, row: Row<'_>, ok: bool) -> bool
+        ensures { result ≡ ok }
+    {
         self.judge_fate(row, ok, Fate::Plain)
     }
 
     // The same of a case whose call has to be accepted: refused, it is wrong whatever stands there.
-    pub fn judge_accepted(&mut self, row: Row<'_>, answer: Result<bool, Refusal>) -> bool {
+    pub fn judge_accepted(&mut self, row: Row<'_>, answer: Result<bool, Refusal>) -> bool
+        ensures { MatchResult answer (λ ok. result ≡ ok) (λ _. result ≡ false) }
+    {
         match answer {
             Ok(ok) => self.judge(row, ok),
             Err(_) => self.judge_fate(row, false, Fate::Refused),
@@ -163,7 +172,9 @@ impl<'a, P: Print> Printer<'a, P> {
         expected: Option<u32>,
         got: Option<u32>,
         ok: bool,
-    ) -> bool {
+    ) -> bool
+        ensures { IsTrue result ↔ (IsTrue ok × (got ≡ expected)) }
+    {
         self.fill(86);
         self.put_answer(expected);
         self.fill(97);
