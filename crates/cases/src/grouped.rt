@@ -60,13 +60,13 @@ pub fn grouped(out: &mut Printer<'_, impl Print>, row: Row<'_>) -> bool {
         && got.planes == expected
         && got.readings == in_array(readings, call, missing);
     out.start_list(row);
-    out.singles(&readings);
+    out.patterns(&readings);
     out.put(format_args!(" {call} in planes, mark"));
-    out.single_at(0, missing);
+    out.pattern_at(0, missing);
     out.expecting();
-    out.singles(&expected);
+    out.patterns(&expected);
     out.getting();
-    out.singles(&got.planes);
+    out.patterns(&got.planes);
     out.put(" ");
     out.judge_accepted(row, got.answer.map(|_| ok))
 }

@@ -89,7 +89,7 @@ fn put_layers(
     codes: &[u16],
 ) {
     out.put(" R");
-    out.singles(references);
+    out.patterns(references);
     out.put(" E");
     out.numbers(exponents);
     out.put(" codes");
@@ -123,7 +123,7 @@ pub fn layers(out: &mut Printer<'_, impl Print>, row: Row<'_>) -> bool {
         && got_exponents == exponents.as_slice()
         && got_codes == codes.as_slice();
     out.start_list(row);
-    out.singles(readings.as_slice());
+    out.patterns(readings.as_slice());
     out.put(format_args!(" L {length} widths"));
     out.numbers(widths.as_slice());
     out.expecting();
@@ -230,11 +230,11 @@ pub fn unpacked(out: &mut Printer<'_, impl Print>, row: Row<'_>) -> bool {
     out.put(format_args!(" width {width}"));
     put_layers(out, layer.references, layer.exponents, layer.codes);
     out.put(" mark");
-    out.double_at(0, missing);
+    out.pattern_at(0, missing);
     out.expecting();
-    out.doubles(expected.as_slice());
+    out.patterns(expected.as_slice());
     out.getting();
-    out.doubles(got);
+    out.patterns(got);
     out.put(" ");
     out.judge_accepted(row, answer.map(|_| got == expected.as_slice()))
 }
@@ -292,9 +292,9 @@ pub fn asked_layer(out: &mut Printer<'_, impl Print>, row: Row<'_>) -> bool {
     out.put(format_args!("width {width}, code"));
     out.numbers(codes.as_slice());
     out.put(", R");
-    out.single_at(0, reference);
+    out.pattern_at(0, reference);
     out.put(format_args!(", E {exponent}, mark"));
-    out.double_at(0, missing);
+    out.pattern_at(0, missing);
     let ok = expected.is_none() || untouched(left);
     out.answered(row, expected, number_of(answer), ok)
 }

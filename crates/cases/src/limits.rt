@@ -3,7 +3,7 @@
 use beyond::Compared;
 use refusal::Refusal;
 use table::fields::Row;
-use table::line::Printer;
+use table::line::{Pattern, Printer};
 
 // What a comparison answers, or has to: the refusal's number, the place that was found, and how many readings were read.
 #[derive(Clone, Copy, Debug, PartialEq, Eq)]
@@ -51,47 +51,48 @@ impl Seen {
             out.put(format_args!(", read {read}"));
         }
     }
+}
 
-    // The two lines behind what is given, and the verdict.
-    fn judge(self, out: &mut Printer<'_, impl Print>, row: Row<'_>) -> bool {
-        let expected = Seen::expected(row);
-        out.expecting();
-        expected.put(out);
-        out.getting();
-        self.put(out);
-        out.put(" ");
-        out.judge(row, self == expected)
-    }
+// Prints a comparison of two arrays, and what came beside what had to.
+fn judged<T: Pattern>(
+    out: &mut Printer<'_, impl Print>,
+    row: Row<'_>,
+    raw: &[T],
+    trimmed: &[T],
+    mark: T,
+    answer: Result<Compared, Refusal>,
+) -> bool {
+    let p = row.signed(2);
+    let expected = Seen::expected(row);
+    let got = Seen::of(answer);
+    out.start_list(row);
+    out.patterns(raw);
+    out.put(" beside");
+    out.patterns(trimmed);
+    out.put(format_args!(", limit 2^{p}, mark"));
+    out.pattern_at(0, mark);
+    out.expecting();
+    expected.put(out);
+    out.getting();
+    got.put(out);
+    out.put(" ");
+    out.judge(row, got == expected)
 }
 
 // Up to four singles as they were sent, beside as many as they were trimmed.
 pub fn exceeds(out: &mut Printer<'_, impl Print>, row: Row<'_>) -> bool {
-    let p = row.signed(2);
     let raw = row.singles(3);
     let trimmed = row.singles(4);
-    let missing = row.mark(5);
-    let answer = beyond::first_beyond_singles(raw.as_slice(), trimmed.as_slice(), missing, p);
-    out.start_list(row);
-    out.singles(raw.as_slice());
-    out.put(" beside");
-    out.singles(trimmed.as_slice());
-    out.put(format_args!(", limit 2^{p}, mark"));
-    out.single_at(0, missing);
-    Seen::of(answer).judge(out, row)
+    let mark = row.mark(5);
+    let answer = beyond::first_beyond_singles(raw.as_slice(), trimmed.as_slice(), mark, row.signed(2));
+    judged(out, row, raw.as_slice(), trimmed.as_slice(), mark, answer)
 }
 
 // The same of doubles.
 pub fn outside(out: &mut Printer<'_, impl Print>, row: Row<'_>) -> bool {
-    let p = row.signed(2);
     let raw = row.doubles(3);
     let trimmed = row.doubles(4);
-    let missing = row.mark_double(5);
-    let answer = beyond::first_beyond_doubles(raw.as_slice(), trimmed.as_slice(), missing, p);
-    out.start_list(row);
-    out.doubles(raw.as_slice());
-    out.put(" beside");
-    out.doubles(trimmed.as_slice());
-    out.put(format_args!(", limit 2^{p}, mark"));
-    out.double_at(0, missing);
-    Seen::of(answer).judge(out, row)
+    let mark = row.mark_double(5);
+    let answer = beyond::first_beyond_doubles(raw.as_slice(), trimmed.as_slice(), mark, row.signed(2));
+    judged(out, row, raw.as_slice(), trimmed.as_slice(), mark, answer)
 }

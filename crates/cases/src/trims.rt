@@ -67,10 +67,10 @@ fn fate_of(answer: Result<Counts, Refusal>, to: Way) -> Fate {
 
 // The columns of a case about one single: what was given, what was expected, what came.
 fn columns(out: &mut Printer<'_, impl Print>, x: u32, mark: u32, expected: u32, got: u32) {
-    out.single_at(44, x);
-    out.single_at(54, mark);
-    out.single_at(64, expected);
-    out.single_at(74, got);
+    out.pattern_at(44, x);
+    out.pattern_at(54, mark);
+    out.pattern_at(64, expected);
+    out.pattern_at(74, got);
     out.fill(84);
 }
 
@@ -121,8 +121,8 @@ pub fn paper(out: &mut Printer<'_, impl Print>, row: Row<'_>) -> bool {
     out.start_call(row, call);
     out.fill(36);
     out.put_bytes(row.field(4));
-    out.single_at(72, expected);
-    out.single_at(82, got);
+    out.pattern_at(72, expected);
+    out.pattern_at(82, got);
     out.fill(92);
     out.judge_accepted(row, answer.map(|_| got == expected))
 }
@@ -136,9 +136,9 @@ pub fn loader(out: &mut Printer<'_, impl Print>, row: Row<'_>) -> bool {
     let got = trim::trim_single(x, call.method, call.setting, MARK, turn);
     out.start_call(row, call);
     out.put(format_args!(" at {turn}"));
-    out.single_at(56, x);
-    out.double_at(66, expected);
-    out.double_at(84, got);
+    out.pattern_at(56, x);
+    out.pattern_at(66, expected);
+    out.pattern_at(84, got);
     out.fill(102);
     out.judge(row, got == expected)
 }
@@ -153,9 +153,9 @@ pub fn double(out: &mut Printer<'_, impl Print>, row: Row<'_>) -> bool {
     let got = readings[0];
     let fate = fate_of(answer, Way::of(x >= 0x8000_0000_0000_0000, got.cmp(&x)));
     out.start_call(row, call);
-    out.double_at(38, x);
-    out.double_at(56, expected);
-    out.double_at(74, got);
+    out.pattern_at(38, x);
+    out.pattern_at(56, expected);
+    out.pattern_at(74, got);
     out.fill(92);
     out.judge_fate(row, got == expected && fate == row.fate(7), fate)
 }
@@ -202,13 +202,13 @@ pub fn array(out: &mut Printer<'_, impl Print>, row: Row<'_>) -> bool {
     let mut left = row.singles(4);
     let answer = trim_singles(left.as_mut_slice(), call.method, call.setting, missing);
     out.start_list(row);
-    out.singles(readings.as_slice());
+    out.patterns(readings.as_slice());
     out.put(format_args!(" {call}, mark"));
-    out.single_at(0, missing);
+    out.pattern_at(0, missing);
     out.expecting();
-    out.singles(expected.as_slice());
+    out.patterns(expected.as_slice());
     out.getting();
-    out.singles(left.as_slice());
+    out.patterns(left.as_slice());
     out.put(" ");
     out.judge_accepted(row, answer.map(|_| left == expected))
 }

@@ -28,6 +28,23 @@ impl<P: Print> fmt::Write for Printer<'_, P> {
     }
 }
 
+// A reading as it is printed: a single by 8 digits, a double by 16.
+pub trait Pattern: Copy {
+    fn write<W: fmt::Write>(self, out: &mut W) -> fmt::Result;
+}
+
+impl Pattern for u32 {
+    fn write<W: fmt::Write>(self, out: &mut W) -> fmt::Result {
+        write!(out, "{self:08X}")
+    }
+}
+
+impl Pattern for u64 {
+    fn write<W: fmt::Write>(self, out: &mut W) -> fmt::Result {
+        write!(out, "{self:016X}")
+    }
+}
+
 impl<'a, P: Print> Printer<'a, P> {
     pub fn new(out: &'a P) -> Self {
         Printer { out, column: 0 }
@@ -56,32 +73,20 @@ impl<'a, P: Print> Printer<'a, P> {
         }
     }
 
-    // A single's pattern at a column.
-    pub fn single_at(&mut self, column: usize, x: u32) {
+    // A pattern at a column.
+    pub fn pattern_at<T: Pattern>(&mut self, column: usize, pattern: T) {
         self.fill(column);
-        self.put(format_args!("{x:08X}"));
+        let _ = pattern.write(self);
     }
 
-    // A double's pattern at a column.
-    pub fn double_at(&mut self, column: usize, x: u64) {
-        self.fill(column);
-        self.put(format_args!("{x:016X}"));
-    }
-
-    // Patterns, with a space before each; likewise the lists below.
-    pub fn singles(&mut self, all: &[u32]) {
-        for x in all {
-            self.single_at(0, *x);
+    // Patterns, with a space before each.
+    pub fn patterns<T: Pattern>(&mut self, all: &[T]) {
+        for pattern in all {
+            self.pattern_at(0, *pattern);
         }
     }
 
-    pub fn doubles(&mut self, all: &[u64]) {
-        for x in all {
-            self.double_at(0, *x);
-        }
-    }
-
-    // Widths, codes or step exponents.
+    // Widths, codes or step exponents, likewise.
     pub fn numbers<T: fmt::Display>(&mut self, all: &[T]) {
         for x in all {
             self.put(format_args!(" {x}"));
