@@ -76,7 +76,13 @@ fn asked_of(n: usize, told: u64, call: Call) -> Result<Counts, Refusal>
     requires { n ≤ 20 }
 {
     let mut planes = [0u8; 20];
-    planes::trim_planes_singles(&mut planes[..n], told as usize, call.method, call.setting, MARK)
+    planes::trim_planes_singles(
+        &mut planes[..n],
+        told as usize,
+        call.method,
+        call.setting,
+        MARK,
+    )
 }
 
 // The questions of trimming in planes: a buffer of whole readings and more bytes, and the number of readings that is told.

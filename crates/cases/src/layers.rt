@@ -169,9 +169,7 @@ pub fn asked_pack(out: &mut Printer<'_, impl Print>, row: Row<'_>) -> bool {
 fn put_lengths(out: &mut Printer<'_, impl Print>, lengths: Lengths) {
     out.put(format_args!(
         ", {} codes, {} R, {} E",
-        lengths.codes,
-        lengths.references,
-        lengths.exponents
+        lengths.codes, lengths.references, lengths.exponents
     ));
 }
 

@@ -84,7 +84,12 @@ pub fn exceeds(out: &mut Printer<'_, impl Print>, row: Row<'_>) -> bool {
     let raw = row.singles(3);
     let trimmed = row.singles(4);
     let mark = row.mark(5);
-    let answer = beyond::first_beyond_singles(raw.as_slice(), trimmed.as_slice(), mark, row.signed(2));
+    let answer = beyond::first_beyond_singles(
+        raw.as_slice(),
+        trimmed.as_slice(),
+        mark,
+        row.signed(2),
+    );
     judged(out, row, raw.as_slice(), trimmed.as_slice(), mark, answer)
 }
 
@@ -93,6 +98,11 @@ pub fn outside(out: &mut Printer<'_, impl Print>, row: Row<'_>) -> bool {
     let raw = row.doubles(3);
     let trimmed = row.doubles(4);
     let mark = row.mark_double(5);
-    let answer = beyond::first_beyond_doubles(raw.as_slice(), trimmed.as_slice(), mark, row.signed(2));
+    let answer = beyond::first_beyond_doubles(
+        raw.as_slice(),
+        trimmed.as_slice(),
+        mark,
+        row.signed(2),
+    );
     judged(out, row, raw.as_slice(), trimmed.as_slice(), mark, answer)
 }

@@ -23,8 +23,7 @@ pub enum Form {
 
 // Digits of the base, and nothing else.
 fn digits(s: &[u8], base: u32) -> bool {
-    s.iter()
-        .all(|byte| fields_in::digit(*byte).is_some_and(|digit| digit < base))
+    s.iter().all(|byte| fields_in::digit(*byte).is_some_and(|digit| digit < base))
 }
 
 fn so_many(s: &[u8], n: usize, base: u32) -> bool {
