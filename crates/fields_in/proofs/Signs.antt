@@ -23,9 +23,6 @@ use Rattle.fields_in.proofs.Walk.{ByteIs}
 abbrev negated : ℕ → ℤ
 negated n = neg_ℤ (pos n)
 
-pub as_signed : (v : ℕ) → v < 10000 → SFits w32 (pos v)
-as_signed v h = record { sfits = omega arith }
-
 pub is_signed : (v : ℕ) → v < 10000 → to_z w32 v ≡ pos v
 is_signed v h = to_z_pos w32 {n = v} (omega arith)
 

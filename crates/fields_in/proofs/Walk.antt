@@ -1,7 +1,7 @@
 -- Readers that go byte by byte, over plain lists.
 use Prim.Native.Nat.{ℕ, zero, suc, ◌+◌, ◌-◌, ◌*◌, ◌^◌, ◌≤◌, ◌<◌}
 use native.Mathlib.Omega.{arith}
-use native.Mathlib.Nat.{not-suc-le-zero, pow-succ', pow-le-pow_right, add-zero}
+use native.Mathlib.Nat.{not-suc-le-zero, pow-succ', pow-le-pow_right}
 use native.Mathlib.Numerals.{add-one}
 use mathlib.Core.Path.{◌≡◌, refl, sym, ap, ◌∙◌, subst}
 use mathlib.Core.Bool.{Bool, true, false, cond, ◌&&◌, true≢false}
@@ -28,9 +28,6 @@ pub record HexTurn (s : List ℕ) (at v i : ℕ) : Type 0 where
   pub within : at + i ≤ length s
   pub small : v < 16 ^ i
   pub same : read_hex (8 - i) v (drop (at + i) s) ≡ read_pattern (drop at s)
-
-pub hex_start : (s : List ℕ) (at : ℕ) → at ≤ length s → HexTurn s at 0 0
-hex_start s at h = record { low = omega arith; within = omega arith; small = omega arith; same = ap (λ (p : ℕ). read_hex 8 0 (drop p s)) (add-zero at) }
 
 module _ (s : List ℕ) (at v i : ℕ) (t : HexTurn s at v i) (h : i < 8) where
   pub hex_room : v < 2 ^ 28
@@ -197,9 +194,6 @@ unfolding read_number read_run
 number_none s at e = ap (λ (b : Bool). then (cond b bad (got (run_of is_digit 4 (drop at s)) (drop (length (run_of is_digit 4 (drop at s))) (drop at s)))) (λ d s. got (number_of 0 d) s)) (eq-eqb (length (run_of is_digit 4 (drop at s))) 0 e)
 
 module _ (s : List ℕ) (at n v i : ℕ) (t : NumberTurn s at n v i) where
-  pub number_room : i < n → v < 1000
-  number_room h = let a = t.small in let f = t.few in let b : 10 ^ i ≤ 10 ^ 3 = pow-le-pow_right {n = 10} (omega arith) {i = i} {j = 3} (omega arith) in omega arith
-
   pub number_small : v < 10000
   number_small = let a = t.small in let f = t.few in let l = t.low in let b : 10 ^ i ≤ 10 ^ 4 = pow-le-pow_right {n = 10} (omega arith) {i = i} {j = 4} (omega arith) in omega arith
 

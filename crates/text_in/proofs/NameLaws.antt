@@ -73,9 +73,6 @@ joined : (rs : List (List ℕ)) (r : List ℕ) (g : Got (List (List ℕ))) → t
 joined rs r (got us s) = ap (λ (l : List (List ℕ)). got l s) (sym (append_assoc rs (r ∷ []) us))
 joined rs r bad = refl
 
-pub names_start : (t : List ℕ) (at : ℕ) → at ≤ length t → NamesTurn t at 0 at
-names_start t at h = record { low = omega arith; within = h; names = []; count = refl; read = same_got (read_names 8 (drop at t)) }
-
 module _ (t : List ℕ) (at k p : ℕ) (x : NamesTurn t at k p) (h : k < 8) (n : ℕ) (e : n ≡ length (run_of is_letter 16 (drop p t))) where
   opened : read_names 8 (drop at t) ≡ then (then (read_run is_letter 16 (drop p t)) (λ w s. after_name w (read_names (8 - (k + 1))) s)) (λ us s. got (x.names ++ us) s)
   unfolding read_names

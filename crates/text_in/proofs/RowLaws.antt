@@ -5,21 +5,12 @@ use native.Mathlib.Nat.{sub-zero}
 use mathlib.Core.Path.{◌≡◌, refl, sym, ap, ◌∙◌}
 use mathlib.Core.List.{List, [], ◌∷◌, ◌++◌, append_assoc, append-nil}
 use lib.ListN.{length, drop, set, length-append, length-drop, length-set}
-use Rattle.form.specs.Form.{pattern}
 use Rattle.form.specs.Parse.{Got, got, bad, then, read_pattern, skip, ending, read_row}
 use Rattle.std.proofs.Common.{Some, None}
 use Rattle.text_in.specs.Places.{spread, RowAt, EndingRead}
-use Rattle.form.proofs.Reading.{pattern_sound, skip_sound}
-use Rattle.fields_in.proofs.Walk.{length-hex}
+use Rattle.form.proofs.Reading.{skip_sound}
 
 -- what was read stood there
-pub pattern_within : (t : List ℕ) (p v : ℕ) (r : List ℕ) → p ≤ length t → read_pattern (drop p t) ≡ got v r → p + 8 ≤ length t
-pattern_within t p v r h e =
-    let a = ap length (pattern_sound (drop p t) v r e).0 ∙ length-append (pattern v) r in
-    let b = length-hex 8 v in
-    let d = length-drop p t in
-    omega arith
-
 pub byte_within : (t : List ℕ) (p n : ℕ) (u : Unit {0}) (r : List ℕ) → skip (n ∷ []) (drop p t) ≡ got u r → p < length t
 byte_within t p n u r e =
     let a = ap length (skip_sound (n ∷ []) (drop p t) u r e) in
@@ -55,9 +46,6 @@ joined vs v (got us s) = ap (λ (l : List ℕ). got l s) (sym (append_assoc vs (
 joined vs v bad = refl
 
 module _ (t : List ℕ) (at n row : ℕ) (w₀ w : List ℕ) (j p : ℕ) (i : RowTurn t at n row w₀ w j p) (h : j < n) where
-  pub row_room : row + 512 * j < length w
-  row_room = let a = i.few in let b = i.start in let c = i.long in omega arith
-
   opened : read_row n (drop at t) ≡ then (then (read_pattern (drop p t)) (λ v s. then (skip (ending (n - 1 - j) ∷ []) s) (λ e s. then (read_row (n - 1 - j) s) (λ vs s. got (v ∷ vs) s)))) (λ us s. got (i.values ++ us) s)
   unfolding read_row
   opened = i.read ∙ ap (λ (m : ℕ). then (read_row m (drop p t)) (λ us s. got (i.values ++ us) s)) {x = n - j} {y = suc (n - 1 - j)} (omega arith)
