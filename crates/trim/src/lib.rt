@@ -7,6 +7,7 @@ ghost use Rattle.meaning.specs.Calls.{trim_singles, trim_doubles, loader};
 ghost use Rattle.loops.specs.Tallies.{totals_of};
 ghost use Rattle.trim.specs.Answers.{counts, counts_of};
 
+use reading::Trimmed;
 use refusal::Refusal;
 
 // What a trim answers: the places changed, spared, clipped and missing, and those whose exact value rose and fell.
@@ -47,7 +48,7 @@ pub fn trim_singles(
     ensures content { readings.new ≡ (trim_singles method setting mark readings.old).readings }
 {
     let asked = asking::ask_single(method, setting)?;
-    let sums = singles::method_singles(readings, asked.method.number(), asked.number, mark);
+    let sums = arrays::by_method(readings, asked.method, asked.number, mark);
     Ok(counted(sums))
 }
 
@@ -63,12 +64,12 @@ pub fn trim_doubles(
     ensures content { readings.new ≡ (trim_doubles method setting mark readings.old).readings }
 {
     let asked = asking::ask_double(method, setting)?;
-    let sums = doubles::method_doubles(readings, asked.method.number(), asked.number, mark);
+    let sums = arrays::by_method(readings, asked.method, asked.number, mark);
     Ok(counted(sums))
 }
 
 // What the loader's number gains: 2^33 where the exact value rose, 2^34 where it fell.
-fn gain(one: single::Single) -> u64
+fn gain(one: Trimmed<u32>) -> u64
     requires { (one.risen ≤ one.changed) × (one.changed ≤ 1) }
     ensures value { result ≡ 2 ^ 33 * one.risen + 2 ^ 34 * (one.changed - one.risen) }
     ensures most { result ≤ 2 ^ 34 }
@@ -88,6 +89,6 @@ pub fn trim_single(x: u32, method: u32, setting: i32, mark: u32, turn: u64) -> u
         Ok(asked) => asked,
         Err(refusal) => return 4294967296 + u64::from(refusal.number()),
     };
-    let one = singles::method_single(x, asked.method.number(), asked.number, mark, turn);
+    let one = arrays::one_by_method(x, asked.method, asked.number, mark, turn);
     u64::from(one.pattern) + gain(one)
 }
