@@ -2,11 +2,13 @@
 use Rattle.std.proofs.Common.{◌≡◌, ℕ, zero, suc, ◌+◌, ◌-◌, ◌*◌, ◌<◌, ◌≤◌, List, length, take, drop, get_or, sym, ap, ◌∙◌, refl, arith}
 use Prim.Native.Nat.{min}
 use mathlib.Core.Path.{subst}
-use mathlib.Core.List.{map}
+use mathlib.Core.List.{map, ◌++◌}
 use mathlib.Core.Bool.{cond}
 use lib.Bits.{bit_and, bit_xor}
 use lib.Dec.{eqb}
-use lib.ListN.{set, replicate}
+use native.Mathlib.Decide.{dec_lt}
+use lib.ListN.{set, replicate, length-drop, drop_of_length-le}
+use lib.Seq.{take_at, drop_at, drop-drop}
 use Rattle.std.proofs.lemmas.List.{map-set, get_or-map, length-map, take-map, drop-map}
 use Rattle.reading.specs.Left.{Tally, Settled, takes}
 use Rattle.loops.specs.Walk.{state_at}
@@ -66,3 +68,20 @@ module _ {W : Type 0} (value : W → ℕ) where
   rest_same_at block whole ys a k e to long l h =
       ap (drop e) (map_back value block a k ys)
       ∙ rest_same (map value block) (map value whole) (map value ys) a k e to (length-map ys value ∙ long) (rw length-map l) h
+
+  -- the row that comes next as a chunk of a block, and what is left of the block after it
+  module _ (block : List W) (r : ℕ) (rest x next : List W) (at : rest ≡ drop (r * 512) block) (parts : rest ≡ x ++ next) (long : length x ≡ min 512 (length rest)) (some : 0 < length rest) where
+    left : length rest ≡ length block - r * 512
+    left = ap length at ∙ length-drop (r * 512) block
+
+    pub chunk_is : map value x ≡ row_of r (map value block)
+    chunk_is =
+        sym (ap (map value) (ap (take (length x)) (sym at ∙ parts) ∙ take_at x next (length x) refl))
+        ∙ row_is_at block block (r * 512) r (length x) refl refl (omega (arith, left, some)) (omega (arith, left, long))
+
+    pub chunk_next : next ≡ drop ((r + 1) * 512) block
+    chunk_next = sym (drop_at x next (length x) refl) ∙ ap (drop (length x)) (sym parts ∙ at) ∙ drop-drop (length x) (r * 512) block ∙ go (dec_lt (length rest) 512)
+      where
+        go : Dec (length rest < 512) → drop (r * 512 + length x) block ≡ drop ((r + 1) * 512) block
+        go (yes l) = drop_of_length-le block (omega (arith, left, long)) ∙ sym (drop_of_length-le block (omega (arith, left, long)))
+        go (no l) = ap (λ (n : ℕ). drop n block) {x = r * 512 + length x} {y = (r + 1) * 512} (omega (arith, long))
