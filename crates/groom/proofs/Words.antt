@@ -2,24 +2,31 @@
 use Rattle.std.proofs.Common.{◌≡◌, ℕ, zero, suc, ◌+◌, ◌-◌, ◌*◌, ◌<◌, ◌≤◌, List, length, take, drop, get_or, sym, ap, ◌∙◌, refl, arith}
 use Prim.Native.Nat.{min}
 use mathlib.Core.Path.{subst}
-use mathlib.Core.List.{map, ◌++◌}
+use mathlib.Core.List.{map, [], ◌∷◌, ◌++◌}
 use mathlib.Core.Bool.{cond}
 use lib.Bits.{bit_and, bit_xor}
 use lib.Dec.{eqb}
-use native.Mathlib.Decide.{dec_lt}
-use lib.ListN.{set, replicate, length-drop, drop_of_length-le}
-use lib.Seq.{take_at, drop_at, drop-drop}
-use Rattle.std.proofs.lemmas.List.{map-set, get_or-map, length-map, take-map, drop-map}
+use native.Mathlib.Decide.{dec_lt, ℕ_discrete}
+use lib.ListN.{set, replicate, length-append, length-drop, drop_of_length-le, get_or-append}
+use lib.Seq.{take_at, drop_at, drop-drop, length-take-le, get_or-set_same, get_or-set_other}
+use Rattle.std.proofs.lemmas.List.{map-append, map-set, get_or-map, length-map, take-map, drop-map}
 use Rattle.reading.specs.Left.{Tally, Settled, takes}
 use Rattle.loops.specs.Walk.{state_at}
 use Rattle.parts.proofs.Back.{back, map_back}
 use Rattle.loops.proofs.Walks.{Walk}
 use Rattle.rows.specs.Rows.{row_of, fill_at}
-use Rattle.rows.proofs.Rows.{Marking, mark_next, Counting, count_next, count_done, row_is, rest_same}
+use Rattle.rows.proofs.Rows.{Marking, mark_next, Counting, count_next, row_is, rest_same}
 
 -- a walk at the same place
 pub walk_at : {next : ℕ → ℕ → ℕ} {f : ℕ → ℕ → Settled} {first : ℕ} {all xs : List ℕ} {t : Tally} {s i j : ℕ} → i ≡ j → Walk next f first all xs t s i → Walk next f first all xs t s j
 walk_at {next} {f} {first} {all} {xs} {t} {s} e inv = subst (λ (k : ℕ). Walk next f first all xs t s k) e inv
+
+-- the state after the first k readings, of the first n alone
+state_take : (next : ℕ → ℕ → ℕ) (s : ℕ) (ws : List ℕ) (n k : ℕ) → k ≤ n → state_at next s (take n ws) k ≡ state_at next s ws k
+state_take next s ws n zero h = refl
+state_take next s ws zero (suc k) h = absurd (omega arith)
+state_take next s [] (suc n) (suc k) h = refl
+state_take next s (w ∷ ws) (suc n) (suc k) h = state_take next (next w s) ws n k (omega arith)
 
 module _ {W : Type 0} (value : W → ℕ) where
   -- one column more is marked
@@ -39,9 +46,28 @@ module _ {W : Type 0} (value : W → ℕ) where
       subst (λ (ws : List ℕ). Counting before ws (value w) (i + 1)) (sym (map-set value turns i odd))
       (subst (λ (s : ℕ). Counting before (set (map value turns) i (value odd)) s (i + 1)) (sym (e ∙ ap (bit_xor (value odd)) (sym (get_or-map value turns i d 0 k)))) (count_next inv l))
 
-  pub count_done_at : {before : List ℕ} (turns : List W) {odd : W} {i : ℕ} → Counting before (map value turns) (value odd) i → i < length before
-      → (c : ℕ) → c ≤ i → get_or (map value (set turns i odd)) c 0 ≡ state_at (λ w s. bit_xor s w) 0 before c
-  count_done_at {before} turns {odd} {i} inv l c h = ap (λ (ws : List ℕ). get_or ws c 0) (map-set value turns i odd) ∙ count_done inv l c (omega arith)
+  -- and once all n are, and the state after them is written down behind them, each column has its own
+  pub counted_all : (turns items : List W) {n i : ℕ} {odd : W} → Counting (map value (take n turns)) (map value items) (value odd) i → i ≡ n → n < length turns
+      → (c : ℕ) → c ≤ n → get_or (map value (set (items ++ drop n turns) n odd)) c 0 ≡ state_at (λ w s. bit_xor s w) 0 (map value turns) c
+  counted_all turns items {n} {i} {odd} inv e l c h =
+      ap (λ (ws : List ℕ). get_or ws c 0) (map-set value (items ++ drop n turns) n odd ∙ ap (λ (ws : List ℕ). set ws n (value odd)) (map-append value items (drop n turns)))
+      ∙ go (ℕ_discrete c n)
+    where
+      long : length (map value items) ≡ n
+      long = inv.long ∙ length-map (take n turns) value ∙ length-take-le n turns (omega arith)
+
+      told : (k : ℕ) → k ≤ n → state_at (λ w s. bit_xor s w) 0 (map value (take n turns)) k ≡ state_at (λ w s. bit_xor s w) 0 (map value turns) k
+      told k b = ap (λ (ws : List ℕ). state_at (λ w s. bit_xor s w) 0 ws k) (sym (take-map value n turns)) ∙ state_take (λ w s. bit_xor s w) 0 (map value turns) n k b
+
+      go : Dec (c ≡ n) → get_or (set (map value items ++ map value (drop n turns)) n (value odd)) c 0 ≡ state_at (λ w s. bit_xor s w) 0 (map value turns) c
+      go (yes d) =
+          rw d
+          (get_or-set_same (map value items ++ map value (drop n turns)) n (value odd) 0
+          (simp (length-append, length-map, length-drop) (omega (arith, long, length-map items value)))
+          ∙ inv.here ∙ ap (state_at (λ w s. bit_xor s w) 0 (map value (take n turns))) e ∙ told n (omega arith))
+      go (no d) =
+          get_or-set_other (map value items ++ map value (drop n turns)) n c (value odd) 0 d
+          ∙ get_or-append (map value items) (map value (drop n turns)) 0 c (omega (arith, long)) ∙ inv.done c (omega arith) ∙ told c h
 
   -- what a column's word asks for
   pub fill_is : (turns : List W) (bit want ones c : ℕ) (d : W) → c < length turns → cond (eqb (bit_and (value (get_or turns c d)) bit) want) 0 ones ≡ fill_at (map value turns) bit want ones c

@@ -49,9 +49,9 @@ fn count_turns<W: Word>(turns: &mut [W; 513], n: usize)
     ensures content { (c : ℕ) → c ≤ n → get_or (map W.value turns.new) c 0 ≡ state_at (λ w s. bit_xor s w) 0 (map W.value turns.old) c }
 {
     let mut odd = W::zero();
-    for i in 0..n {
-        let taken = turns[i];
-        turns[i] = odd;
+    for word in turns[..n].iter_mut() {
+        let taken = *word;
+        *word = odd;
         odd = odd.xor(taken);
     }
     turns[n] = odd;
