@@ -25,6 +25,7 @@ fn mark_row<W: Word>(row: &[W], turns: &mut [W; 513], bit: W, mark: W)
     ensures long { length turns.new ≡ 513 }
     ensures content { (c : ℕ) → get_or (map W.value turns.new) c 0 ≡ bit_xor (get_or (map W.value turns.old) c 0) (takes W.FRACTION W.EXPONENT (W.value bit) (W.value mark) (get_or (map W.value row.now) c (W.value mark))) }
 {
+    // The words are written by index: of a write through `iter_mut().zip(..)` a proof knows nothing afterwards.
     for (i, reading) in row.iter().enumerate() {
         turns[i] = turns[i].xor(reading.turn(bit, mark));
     }
@@ -36,10 +37,8 @@ fn mark_rows<W: Word>(block: &[W], turns: &mut [W; 513], mark: W)
     ensures long { length turns.new ≡ 513 }
     ensures content { (r c : ℕ) → bit_of r (get_or (map W.value turns.new) c 0) ≡ takes W.FRACTION W.EXPONENT 1 (W.value mark) (get_or (row_of r (map W.value block.now)) c (W.value mark)) }
 {
-    for r in 0..block.len().div_ceil(512) {
-        let start = r * 512;
-        let end = start + loops::at_most(block.len() - start, 512);
-        mark_row(&block[start..end], turns, W::bit(r as u32), mark);
+    for (r, row) in block.chunks(512).enumerate() {
+        mark_row(row, turns, W::bit(r as u32), mark);
     }
 }
 
@@ -50,9 +49,9 @@ fn count_turns<W: Word>(turns: &mut [W; 513], n: usize)
     ensures content { (c : ℕ) → c ≤ n → get_or (map W.value turns.new) c 0 ≡ state_at (λ w s. bit_xor s w) 0 (map W.value turns.old) c }
 {
     let mut odd = W::zero();
-    for i in 0..n {
-        let taken = turns[i];
-        turns[i] = odd;
+    for word in turns[..n].iter_mut() {
+        let taken = *word;
+        *word = odd;
         odd = odd.xor(taken);
     }
     turns[n] = odd;
@@ -113,6 +112,7 @@ fn groom_rows<W: Word>(
 {
     let mut sums = Totals::new();
     let mut add = first;
+    // By index: of what is written through `chunks_mut` a proof knows nothing afterwards.
     for r in 0..block.len().div_ceil(512) {
         let start = r * 512;
         let n = loops::at_most(block.len() - start, 512);
@@ -147,6 +147,7 @@ pub fn groom<W: Word>(readings: &mut [W], tail: Tail<W>, first: W, mark: W) -> P
 {
     let mut sums = Totals::new();
     let mut add = first;
+    // By index, as above.
     for b in 0..readings.len().div_ceil(16384) {
         let start = b * 16384;
         let end = start + loops::at_most(readings.len() - start, 16384);
