@@ -1,28 +1,39 @@
--- The smallest magnitude of the present readings that are not zero: the fold that finds it, and what it says of every reading.
-use mathlib.Core.Path.{◌≡◌}
+-- The smallest magnitude of the present readings that are not zero: the loop that finds it, and what it says of every reading.
+use mathlib.Core.Path.{◌≡◌, ap, ◌∙◌}
 use mathlib.Core.Logic.{◌≢◌, ◌⊎◌, inl, inr}
 use mathlib.Core.List.{List, [], ◌∷◌}
 use Prim.Native.Nat.{ℕ, zero, suc, min, ◌+◌, ◌-◌, ◌*◌, ◌/◌, ◌%◌, ◌≤◌, ◌<◌}
 use native.Mathlib.Nat.{not-suc-le-zero, le_of_suc-le-suc, le-div_iff_mul-le}
+use native.Mathlib.Numerals.{add-one}
 use native.Mathlib.Decide.{ℕ_discrete}
 use native.Mathlib.Omega.{arith}
 use borrow.Author.Tests.{ne_eqb}
-use lib.ListN.{length, get_or}
-use Rattle.std.specs.List.{fold}
+use lib.ListN.{length, get_or, drop, drop_of_length-le}
+use lib.Seq.{drop-cons}
 use Rattle.meaning.specs.Readings.{exponent_field, spacing_exp, magnitude}
 use Rattle.quick.specs.Coarse.{Coarse, AllCoarse, present_magnitude, or_top, finest}
 
-pub finest_few : (mark : ℕ) (ws : List ℕ) → finest mark ws ≤ 4294967295
+abbrev pub Turn : ℕ → List ℕ → ℕ → ℕ → Type 0
+Turn mark xs least i = (least ≤ 4294967295) × (min least (finest mark (drop i xs)) ≡ finest mark xs)
+
+finest_few : (mark : ℕ) (ws : List ℕ) → finest mark ws ≤ 4294967295
 unfolding finest
 finest_few mark [] = omega arith
 finest_few mark (w ∷ ws) = omega (arith, finest_few mark ws)
 
--- the fold that finds it, from any number on that is at most the one for none
-pub folded : (mark a : ℕ) (ws : List ℕ) → a ≤ 4294967295 → fold (λ m w. min m (or_top (present_magnitude mark w))) a ws ≡ min a (finest mark ws)
+pub start : (mark : ℕ) (xs : List ℕ) → Turn mark xs 4294967295 0
+start mark xs = (omega arith, omega (arith, finest_few mark xs))
+
+pub turn : (mark : ℕ) (xs : List ℕ) (least i m z new : ℕ) → i < length xs → m ≡ present_magnitude mark (get_or xs i 0) → z ≡ or_top m → new ≡ min z least → Turn mark xs least i
+    → Turn mark xs new (i + 1)
 unfolding finest
-folded mark a [] h = omega arith
-folded mark a (w ∷ ws) h =
-    omega (arith, folded mark (min a (or_top (present_magnitude mark w))) ws (omega arith))
+turn mark xs least i m z new h e f n inv =
+    let g : z ≡ or_top (present_magnitude mark (get_or xs i 0)) = f ∙ ap or_top e in
+    (omega (arith, inv.0), rw add-one (omega (arith, rw (drop-cons xs i 0 h, ← g) at inv.1)))
+
+pub end : (mark : ℕ) (xs : List ℕ) (least i : ℕ) → length xs ≤ i → Turn mark xs least i → least ≡ finest mark xs
+unfolding finest
+end mark xs least i h inv = omega (arith, inv.0, rw (drop_of_length-le xs h) at inv.1)
 
 -- ---- coarse readings
 

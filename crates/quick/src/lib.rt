@@ -7,7 +7,7 @@ ghost use Rattle.std.specs.Float.Ieee.{of_bits};
 ghost use Rattle.meaning.specs.Readings.{position};
 ghost use Rattle.meaning.specs.Layers.{last_code, code};
 ghost use Rattle.codes.specs.Cut.{AllReady, CanCode, layer_by, code_by};
-ghost use Rattle.quick.specs.Coarse.{Coarse, AllCoarse, AllHeld, present_magnitude, or_top, finest};
+ghost use Rattle.quick.specs.Coarse.{Coarse, AllCoarse, AllHeld, or_top, finest};
 
 use codes::LayerStep;
 
@@ -28,21 +28,17 @@ fn or_top(magnitude: u32) -> u32
     summary::choose(magnitude, 0, u32::MAX, magnitude)
 }
 
-// A reading's magnitude, 0 where it is missing.
-fn present_magnitude(reading: u32, mark: u32) -> u32
-    ensures { result ≡ present_magnitude mark reading }
-{
-    summary::choose(reading, mark, 0, reading % 0x8000_0000)
-}
-
 // The smallest magnitude of the present readings that are not zero; above all magnitudes where there is none.
 fn finest_magnitude(readings: &[u32], mark: u32) -> u32
     ensures { result ≡ finest mark readings.now }
 {
-    readings.iter().fold(
-        u32::MAX,
-        |least, reading| least.min(or_top(present_magnitude(*reading, mark))),
-    )
+    // A `for`: the compiler takes several readings at once here, but not in a fold.
+    let mut least = u32::MAX;
+    for reading in readings {
+        let magnitude = summary::choose(*reading, mark, 0, *reading % 0x8000_0000);
+        least = or_top(magnitude).min(least);
+    }
+    least
 }
 
 // The first magnitude of a normal number whose spacing is at least 2^(exponent + width - 53); where exponent + width is below 53, of any normal number. A layer with a
