@@ -2,7 +2,7 @@
 // pairs that both slices have. Internal: they show that the demand holds of calls as they run.
 #![tactic(auto)]
 
-ghost use Rattle.std.specs.Prelude.{◌≡◌, map, min};
+ghost use Rattle.std.specs.Prelude.{◌≡◌, map};
 ghost use Rattle.std.specs.Float.{binary32};
 ghost use Rattle.std.specs.Float.Ieee.{to_bits};
 ghost use Rattle.meaning.specs.Calls.{in_turn};
@@ -12,26 +12,12 @@ ghost use Rattle.in_turn.specs.Packed.{PackPromised};
 
 use refusal::Refusal;
 
-// How many calls two slices make.
-fn calls(methods: usize, settings: usize) -> usize
-    ensures { result ≡ min methods settings }
-{
-    if methods < settings {
-        methods
-    } else {
-        settings
-    }
-}
-
 // The calls of a list over singles, one after the other. A refused one changes nothing, and the list goes on.
 fn run_singles(readings: &mut [u32], methods: &[u32], settings: &[i32], mark: u32)
     ensures { readings.new ≡ in_turn 23 8 (calls_of methods.now settings.now) mark readings.old }
 {
-    let n = calls(methods.len(), settings.len());
-    let mut i: usize = 0;
-    while i < n {
-        trim::trim_singles(readings, methods[i], settings[i], mark);
-        i += 1;
+    for (method, setting) in methods.iter().zip(settings) {
+        let _ = trim::trim_singles(readings, *method, *setting, mark);
     }
 }
 
@@ -39,11 +25,8 @@ fn run_singles(readings: &mut [u32], methods: &[u32], settings: &[i32], mark: u3
 fn run_doubles(readings: &mut [u64], methods: &[u32], settings: &[i32], mark: u64)
     ensures { readings.new ≡ in_turn 52 11 (calls_of methods.now settings.now) mark readings.old }
 {
-    let n = calls(methods.len(), settings.len());
-    let mut i: usize = 0;
-    while i < n {
-        trim::trim_doubles(readings, methods[i], settings[i], mark);
-        i += 1;
+    for (method, setting) in methods.iter().zip(settings) {
+        let _ = trim::trim_doubles(readings, *method, *setting, mark);
     }
 }
 
