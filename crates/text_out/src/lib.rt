@@ -130,6 +130,7 @@ pub fn put_lines(out: &mut [u8], at: usize, n: usize, lines: usize, work: &Work)
 }
 
 // What is printed for the refusal with number n, from the start on; how many bytes it has.
+// A number, and no `Refusal`, since the clause takes each number below 1000 and the type would take fewer.
 pub fn put_refusal(out: &mut [u8], n: usize) -> usize
     requires { (n < 1000) × (12 ≤ length out.old) }
     ensures value { result ≡ length (printed (refused n)) }
