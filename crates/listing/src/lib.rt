@@ -12,7 +12,7 @@ ghost use Rattle.listing.specs.Jobs.{JobRead, job_trimmed, left_readings, Small,
 
 use method::Method;
 use refusal::Refusal;
-use text_in::Text;
+use text_in::{Text, Work};
 use trim::Counts;
 
 // A job that is accepted: what its text holds, and the method that its word names.
@@ -23,8 +23,7 @@ struct Accepted {
 }
 
 // The questions of a text, in their order: does it have the form, is its word known, is its setting in range? Its values go to the work area.
-fn accept(input: &[u8], work: &mut [u32]) -> Result<Accepted, Refusal>
-    requires { length work.old ≡ 4096 }
+fn accept(input: &[u8], work: &mut Work) -> Result<Accepted, Refusal>
     ensures { JobRead input.now work.new result }
 {
     let text = text_in::read_text(input, work).ok_or(Refusal::TextNotOfTheForm)?;
@@ -59,8 +58,8 @@ fn put_answer(out: &mut [u8], at: usize, answer: Result<Counts, Refusal>) -> usi
 
 // Trims each series of a job in the work area as one array: a part of 512 places for each, of which the first hold its lines' values. The lines of their counts go to
 // `counts`, from its start on; answers how many bytes those are.
-fn trim_series(work: &mut [u32], job: Accepted, counts: &mut [u8]) -> usize
-    requires { (job.text.count ≤ 8) × (job.text.lines ≤ 512) × (length work.old ≡ 4096) × (length counts.old ≡ 192) }
+fn trim_series(work: &mut Work, job: Accepted, counts: &mut [u8]) -> usize
+    requires { (job.text.count ≤ 8) × (job.text.lines ≤ 512) × (length counts.old ≡ 192) }
     ensures work { area_series work.new job.text.count job.text.lines ≡ left_readings (job_trimmed work.old job) }
     ensures answer { result ≡ length (counts_lines (job_trimmed work.old job)) }
     ensures counts { counts.new ≡ paste counts.old 0 (counts_lines (job_trimmed work.old job)) }
@@ -87,12 +86,12 @@ fn trim_series(work: &mut [u32], job: Accepted, counts: &mut [u8]) -> usize
 fn put_output(
     out: &mut [u8],
     names: &[u8],
-    work: &[u32],
+    work: &Work,
     count: usize,
     lines: usize,
     counts: &[u8],
 ) -> usize
-    requires count_bound { (count ≤ 8) × (lines ≤ 512) × (length work.now ≡ 4096) × (length out.old ≡ 65536) }
+    requires count_bound { (count ≤ 8) × (lines ≤ 512) × (length out.old ≡ 65536) }
     requires names_len_bound { (length names.now ≤ 136) × (length counts.now ≤ 192) }
     ensures value { result ≡ length (pieces names.now work.now count lines counts.now) }
     ensures out_after { out.new ≡ paste out.old 0 (pieces names.now work.now count lines counts.now) }

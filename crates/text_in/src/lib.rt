@@ -10,6 +10,9 @@ ghost use Rattle.text_in.specs.Places.{EndingRead, RowsRead, NamesRead, header_g
 
 use fields_in::Read;
 
+// The work area: 8 parts of 512 places, one for each series.
+pub type Work = [u32; 4096];
+
 const HEADER: [u8; 20] = *b"method,setting,mark\n";
 
 // Does the text begin with the header line?
@@ -83,8 +86,8 @@ pub fn names_at(s: &[u8], at: usize) -> Option<Read<usize>>
 }
 
 // A line of n patterns from `at` on: pattern j goes to place row + 512 * j. Answers the place after the line.
-pub fn row_at(s: &[u8], at: usize, n: usize, row: usize, work: &mut [u32]) -> Option<usize>
-    requires { (at ≤ length s.now) × (n ≤ 8) × (row < 512) × (length work.old ≡ 4096) }
+pub fn row_at(s: &[u8], at: usize, n: usize, row: usize, work: &mut Work) -> Option<usize>
+    requires { (at ≤ length s.now) × (n ≤ 8) × (row < 512) }
     ensures { RowRead s.now at n row work.old work.new result }
 {
     let mut p = at;
@@ -97,8 +100,8 @@ pub fn row_at(s: &[u8], at: usize, n: usize, row: usize, work: &mut [u32]) -> Op
 }
 
 // Lines of n patterns from `at` to the end of the text: pattern j of line i goes to place i + 512 * j. Answers how many lines there are.
-pub fn rows_at(s: &[u8], at: usize, n: usize, work: &mut [u32]) -> Option<usize>
-    requires { (at ≤ length s.now) × (n ≤ 8) × (length work.old ≡ 4096) }
+pub fn rows_at(s: &[u8], at: usize, n: usize, work: &mut Work) -> Option<usize>
+    requires { (at ≤ length s.now) × (n ≤ 8) }
     ensures { RowsRead s.now at n work.old work.new result }
 {
     let mut i = 0;
@@ -125,8 +128,7 @@ pub struct Text {
 }
 
 // The whole text: its job, with the patterns in the work area, series by series; or none, which is question 9's no.
-pub fn read_text(s: &[u8], work: &mut [u32]) -> Option<Text>
-    requires { length work.old ≡ 4096 }
+pub fn read_text(s: &[u8], work: &mut Work) -> Option<Text>
     ensures { TextRead s.now work.new result }
 {
     if !header_at(s) {

@@ -11,6 +11,8 @@ ghost use Rattle.form.specs.Output.{decimal, columns, printed};
 ghost use Rattle.text_in.specs.Places.{area_series};
 ghost use Rattle.text_out.specs.Places.{paste, gather, field};
 
+use text_in::Work;
+
 // One hexadecimal digit as a byte.
 #[tactic(auto, using(std::proofs::lemmas::Bool::Decides::nat_tests), unfolding(form::specs::Form::hex_char))]
 pub fn hex_char(d: u32) -> u8
@@ -65,8 +67,8 @@ pub fn ending_byte(left: usize) -> u8
 }
 
 // Line i of the work area: pattern j from place i + 512 * j; the place after it.
-pub fn put_line(out: &mut [u8], at: usize, n: usize, i: usize, work: &[u32]) -> usize
-    requires { (n ≤ 8) × (i < 512) × (length work.now ≡ 4096) × (at + 9 * n ≤ length out.old) }
+pub fn put_line(out: &mut [u8], at: usize, n: usize, i: usize, work: &Work) -> usize
+    requires { (n ≤ 8) × (i < 512) × (at + 9 * n ≤ length out.old) }
     ensures value { result ≡ at + 9 * n }
     ensures out_after { out.new ≡ paste out.old at (line (map pattern (gather work.now i n))) }
 {
@@ -115,8 +117,8 @@ pub fn put_counts(out: &mut [u8], at: usize, counts: &[usize]) -> usize
 }
 
 // The lines of values of the n series in the work area from `at` on, with room for 72 bytes each; the place after them.
-pub fn put_lines(out: &mut [u8], at: usize, n: usize, lines: usize, work: &[u32]) -> usize
-    requires { (n ≤ 8) × (lines ≤ 512) × (length work.now ≡ 4096) × (at + 72 * lines ≤ length out.old) }
+pub fn put_lines(out: &mut [u8], at: usize, n: usize, lines: usize, work: &Work) -> usize
+    requires { (n ≤ 8) × (lines ≤ 512) × (at + 72 * lines ≤ length out.old) }
     ensures value { result ≡ at + length (value_lines (columns lines (area_series work.now n lines))) }
     ensures out_after { out.new ≡ paste out.old at (value_lines (columns lines (area_series work.now n lines))) }
 {
@@ -128,6 +130,7 @@ pub fn put_lines(out: &mut [u8], at: usize, n: usize, lines: usize, work: &[u32]
 }
 
 // What is printed for the refusal with number n, from the start on; how many bytes it has.
+// A number, and no `Refusal`, since the clause takes each number below 1000 and the type would take fewer.
 pub fn put_refusal(out: &mut [u8], n: usize) -> usize
     requires { (n < 1000) × (12 ≤ length out.old) }
     ensures value { result ≡ length (printed (refused n)) }

@@ -6,13 +6,13 @@ use Rattle.listing.proofs.listing.Goals as goal
 pub trim_series-n-requires : goal.trim_series-n-requires
 trim_series-n-requires c =
     let x = c.in-Ok.ensures.0 in
-    (few_series _ _ _ _ _ _ _ _ _ x, few_lines _ _ _ _ _ _ _ _ _ x, search rules, search rules)
+    (few_series _ _ _ _ _ _ _ _ _ x, few_lines _ _ _ _ _ _ _ _ _ x, search rules)
 
 pub put_output-requires : goal.put_output-requires
 put_output-requires c =
     let x = c.in-Ok.ensures.0 in
     let few = few_series _ _ _ _ _ _ _ _ _ x in
-    record { count_bound = (few, few_lines _ _ _ _ _ _ _ _ _ x, search rules, search rules); names_len_bound = (names_short _ _ _ _ _ _ _ _ _ x, counts_few _ _ _ c.trim_series-n.ensures.short few) }
+    record { count_bound = (few, few_lines _ _ _ _ _ _ _ _ _ x, search rules); names_len_bound = (names_short _ _ _ _ _ _ _ _ _ x, counts_few _ _ _ c.trim_series-n.ensures.short few) }
 
 pub returns-in-Ok : goal.returns-in-Ok
 returns-in-Ok c =

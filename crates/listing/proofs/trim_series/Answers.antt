@@ -4,7 +4,7 @@ use Rattle.listing.proofs.Series.{series_start, answer_room, part_small, part_tu
 use Rattle.listing.proofs.trim_series.Goals as goal
 
 pub loop-j-init : goal.loop-j-init
-loop-j-init c = let h = c.requires in series_start _ _ _ _ _ _ _ h.0 h.1 h.2 h.3
+loop-j-init c = let h = c.requires in series_start _ _ _ _ _ _ _ h.0 h.1 (search rules) h.2
 
 pub put_answer-p-requires : goal.put_answer-p-requires
 put_answer-p-requires c =

@@ -1,11 +1,11 @@
-use Rattle.std.proofs.Common.{arith}
+use Rattle.std.proofs.Common.{rules, arith}
 use Rattle.text_in.proofs.LineLaws.{rows_start, rows_many, rows_bad, rows_turn, rows_done}
 use Rattle.text_in.proofs.rows_at.Goals as goal
 
 pub loop-p-init : goal.loop-p-init
 loop-p-init c =
     let s = c.requires in
-    rows_start _ _ _ _ s.0 s.1 s.2
+    rows_start _ _ _ _ s.0 s.1 (search rules)
 
 pub returns-then-i-eq512 : goal.returns-then-i-eq512
 returns-then-i-eq512 c = rows_many _ _ _ _ _ _ _ c.loop-p.invariant c.loop-p-test.true (omega (arith, c.if-i-eq512.true))
