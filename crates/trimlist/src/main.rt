@@ -59,7 +59,7 @@ fn write_answer<R: Print + Eprint + AllocGlobal>(rt: &R, answer: &[u8]) -> Resul
     }
 }
 
-// A refusal's number by its digit.
+// A refusal's number by its digit. A number and no `Refusal`, since `text_reason::say` takes any number, as it did.
 fn number_of(digit: u8) -> u32 {
     match digit {
         b'1' => 1,
