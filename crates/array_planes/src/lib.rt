@@ -5,7 +5,7 @@
 
 ghost use Rattle.std.specs.Prelude.{◌≡◌, ◌+◌, ◌≤◌, ◌<◌, length};
 ghost use mathlib.Core.List.{map};
-ghost use Rattle.std.proofs.Common.{rules};
+ghost use native.Mathlib.Nat.{zero-lt-suc};
 ghost use Rattle.array_planes.specs.Places.{stored, fetched, Room};
 
 use array_halves::{Halves, Number};
@@ -42,7 +42,7 @@ impl Planes for u16 {
 
     type ReadRoom = ();
 
-    ghost has_bytes = { Prim.search rules };
+    ghost has_bytes = { zero-lt-suc 1 };
 
     fn write(block: &[u16], planes: &mut [u8], n: usize, at: usize, _room: &mut ()) {
         let to = at + block.len();
@@ -61,7 +61,7 @@ impl Planes for u32 {
 
     type ReadRoom = ([u16; BLOCK], [u16; BLOCK]);
 
-    ghost has_bytes = { Prim.search rules };
+    ghost has_bytes = { zero-lt-suc 3 };
 
     fn write(block: &[u32], planes: &mut [u8], n: usize, at: usize, room: &mut Self::WriteRoom) {
         write_halves(block, planes, n, at, room, &mut ());
@@ -77,7 +77,7 @@ impl Planes for u64 {
 
     type ReadRoom = ([u32; BLOCK], [u32; BLOCK], <u32 as Planes>::ReadRoom);
 
-    ghost has_bytes = { Prim.search rules };
+    ghost has_bytes = { zero-lt-suc 7 };
 
     fn write(block: &[u64], planes: &mut [u8], n: usize, at: usize, room: &mut Self::WriteRoom) {
         write_halves(block, planes, n, at, &mut room.0, &mut room.1);
