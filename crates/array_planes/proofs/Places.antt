@@ -295,7 +295,7 @@ fetched_pairs n a k ps =
     let above = take k (drop (n + a) ps) in
     rw (part_long a k, part_far n a k) (sym (ap (zip_with (λ low high. low + 256 * high) (take k (drop a ps))) (none_above k above (simp length-take (omega arith)))))
 
-pub front_long : (z : List ℕ) (k : ℕ) → k ≤ length z → length (take (k - 0) (drop 0 z)) ≡ k
+pub front_long : {A : Type 0} (z : List A) (k : ℕ) → k ≤ length z → length (take (k - 0) (drop 0 z)) ≡ k
 front_long z k h = simp length-take (omega arith)
 
 -- a block ws of numbers that v reads, by its halves, which u reads; the high ones begin at the byte m

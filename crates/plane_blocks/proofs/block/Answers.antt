@@ -14,5 +14,5 @@ returns g c =
     let k = number_of s.job.method in
     let mark = m.value s.mark in
     let it = block_done (next_with m.FRACTION m.EXPONENT k s.job.n mark) (settled_with m.FRACTION m.EXPONENT k s.job.n mark) g.W.InPlanes.BYTES s.n s.at (length s.room.now) (m.value s.add) s.planes.now c.requires.2
-    c.read.ensures c.part-part.ensures.trimmed.sums ? c.part-part.ensures.trimmed.content ? in
+    c.read.ensures c.part-part.ensures.trimmed.sums (rw length-map c.part-part.ensures.add) c.part-part.ensures.trimmed.content (rw length-map c.write.ensures) in
     record { sums = it.0; add = it.1.0; content = it.1.1 }
