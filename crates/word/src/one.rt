@@ -40,7 +40,8 @@ pub fn settle<W: Word>(x: W, new: W, over: W, mark: W) -> Trimmed<W>
     let marked = left.wanted.choose(mark, one, zero);
     let clipped = p.choose(x, zero, over);
     let missing = x.choose(mark, one, zero);
-    let turned = x.sign().choose(left.lost.sign(), zero, one);
+    let sign = x.sign();
+    let turned = sign.choose(left.lost.sign(), zero, one);
     let risen = changed.and(turned);
     Trimmed {
         pattern: p,
@@ -146,8 +147,7 @@ fn halfshave<W: Word>(m: W, t: u32) -> W
     }
     let unit = W::unit(t);
     let half = W::unit(t - 1);
-    let ones = unit.minus(W::one());
-    without(m, ones).sum(half)
+    without(m, unit.minus(W::one())).sum(half)
 }
 
 // Method 6 with n digits: method 3 with the tail that the reading's decade gives.

@@ -17,7 +17,7 @@ sum-requires g c =
     let half = c.unit-half.ensures in
     omega (
       arith,
-      cut_is t (v c.args.m) _ _ _ _ c.one.ensures c.unit-unit.ensures c.minus-ones.ensures c.without.ensures,
+      cut_is t (v c.args.m) _ _ _ _ c.one.ensures c.unit-unit.ensures c.minus.ensures c.without.ensures,
       floor_room (w.FRACTION + w.EXPONENT + 1) t (v c.args.m) (v c.unit-half.result) (omega (arith, short))
           (omega (arith, c.requires.0.1, infinity_le w.FRACTION w.EXPONENT, two w.FRACTION w.EXPONENT))
           (omega (arith, half, pow-lt {i = t - 1} {j = t} (omega arith))),
@@ -29,4 +29,4 @@ returns g c =
     let t = c.args.t in
     c.sum.ensures
     ∙ halfshaved_word t (v c.args.m) (2 ^ t) (v c.unit-half.result) (v c.without.result) c.if-t-eq0.false c.requires.0.0 refl c.unit-half.ensures
-    (cut_is t (v c.args.m) _ _ _ _ c.one.ensures c.unit-unit.ensures c.minus-ones.ensures c.without.ensures)
+    (cut_is t (v c.args.m) _ _ _ _ c.one.ensures c.unit-unit.ensures c.minus.ensures c.without.ensures)

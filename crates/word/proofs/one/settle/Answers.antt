@@ -15,7 +15,7 @@ returns g c =
     let left = c.left-left in
     let room = left.ensures.room in
     let changed = rw (zero, one) at c.choose-changed.ensures in
-    let turned = rw (c.sign.ensures, c.sign-2.ensures, zero, one) at c.choose-turned.ensures in
+    let turned = rw (c.sign-sign.ensures, c.sign.ensures, zero, one) at c.choose-turned.ensures in
     settled_as w.FRACTION w.EXPONENT (v s.mark) (v s.x) (v s.new) (v s.over) _ _ _ _ _ _ left.ensures.pattern changed
     (rw (left.ensures.wanted, one, zero) at c.choose-marked.ensures) (rw zero at c.choose-clipped.ensures) (rw (one, zero) at c.choose-missing.ensures)
     (rose_word w.FRACTION w.EXPONENT (v s.x) (v left.result.pattern) (v left.result.lost) (v c.choose-turned.result) (v c.choose-changed.result) _
