@@ -11,18 +11,11 @@ ghost use Rattle.meaning.specs.Readings.{infinity, spacing_exp};
 ghost use Rattle.meaning.specs.Methods.{absolute, nearest, clips, new_magnitude};
 ghost use Rattle.absolute.specs.Stepped.{Stepped};
 
-// The new magnitude of a single, and 1 where it was clipped, else 0.
+// A new magnitude, and 1 where it was clipped, else 0; both in a word of the width.
 #[derive(Clone, Copy)]
-pub struct Coarse {
-    pub magnitude: u32,
-    pub clipped: u32,
-}
-
-// The same of a double.
-#[derive(Clone, Copy)]
-pub struct Coarse64 {
-    pub magnitude: u64,
-    pub clipped: u64,
+pub struct Coarse<W> {
+    pub magnitude: W,
+    pub clipped: W,
 }
 
 // The nearest multiple of the unit, ties to even: the first single whose spacing is the unit is added, which rounds, and taken off again, which is exact; from that
@@ -99,13 +92,13 @@ fn magnitude_at(bits: u64, exponent: u64, spacings: u64) -> u64
 }
 
 // The nearest multiple of any unit by whole numbers, clipped, for either width: with this number of fraction bits, and the magnitude of infinity as the limit.
-fn coarse_step(bits: u64, limit: u64, m: u64, q: u64) -> Coarse64
+fn coarse_step(bits: u64, limit: u64, m: u64, q: u64) -> Coarse<u64>
     requires { (bits ≤ 52) × ((m < limit) × (limit < 2 ^ 63)) }
     ensures { (X : ℕ) → limit ≡ infinity bits X → Stepped bits X q m result.magnitude result.clipped }
 {
     let exponent = spacing_exponent(bits, m);
     if q < exponent {
-        return Coarse64 {
+        return Coarse {
             magnitude: m,
             clipped: 0,
         };
@@ -113,7 +106,7 @@ fn coarse_step(bits: u64, limit: u64, m: u64, q: u64) -> Coarse64
     // the unit is 2^above spacings; zero is nearest where that is more than twice the significand
     let above = q - exponent;
     if bits + 1 < above {
-        return Coarse64 {
+        return Coarse {
             magnitude: 0,
             clipped: 0,
         };
@@ -122,20 +115,20 @@ fn coarse_step(bits: u64, limit: u64, m: u64, q: u64) -> Coarse64
     let unit = power(above);
     let near = magnitude_at(bits, exponent, nearest_whole(significand, unit) * unit);
     if near < limit {
-        return Coarse64 {
+        return Coarse {
             magnitude: near,
             clipped: 0,
         };
     }
     let below = magnitude_at(bits, exponent, significand / unit * unit);
-    Coarse64 {
+    Coarse {
         magnitude: below,
         clipped: 1,
     }
 }
 
 // The nearest multiple of any unit, ties to even, or the largest finite multiple where that would pass the largest finite single.
-pub fn coarse_single(m: u32, q: u32) -> Coarse
+pub fn coarse_single(m: u32, q: u32) -> Coarse<u32>
     requires { m < 0x7f800000 }
     ensures magnitude { result.magnitude ≡ new_magnitude 23 8 (absolute q) 0 m }
     ensures clipped { result.clipped ≡ cond (clips 23 8 (absolute q) m) 1 0 }
@@ -148,7 +141,7 @@ pub fn coarse_single(m: u32, q: u32) -> Coarse
 }
 
 // The same of a double.
-pub fn coarse_double(m: u64, q: u64) -> Coarse64
+pub fn coarse_double(m: u64, q: u64) -> Coarse<u64>
     requires { m < 0x7ff0000000000000 }
     ensures magnitude { result.magnitude ≡ new_magnitude 52 11 (absolute q) 0 m }
     ensures clipped { result.clipped ≡ cond (clips 52 11 (absolute q) m) 1 0 }

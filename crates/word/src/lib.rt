@@ -1,18 +1,32 @@
-// The words that readings are stored in: of 32 bits for singles, of 64 for doubles. Whatever is done to an array is written once, for every such word; what is done to one reading is a
-// method of it, and `single` and `double` do it. Internal: the calls open to users are those of `trim` and `planes`.
+// The words that readings are stored in: of 32 bits for singles, of 64 for doubles. Whatever is done to an array, and to one reading (`one`), is written once, for every such word; only what
+// differs by width stands in the two impls. Internal: the calls open to users are those of `trim` and `planes`.
 #![tactic(auto)]
 
-ghost use Rattle.std.specs.Prelude.{◌≡◌, ℕ, ◌+◌, ◌-◌, ◌^◌, ◌<◌, ◌≤◌, if◌then◌else◌, nat_eq};
+ghost use Rattle.std.specs.Prelude.{◌≡◌, ℕ, false, ◌+◌, ◌-◌, ◌/◌, ◌%◌, ◌^◌, ◌<◌, ◌≤◌, if◌then◌else◌, nat_eq, nat_lt};
 ghost use Rattle.std.specs.Int.Bits.{bit_and, bit_xor};
 ghost use Rattle.std.specs.Mem.{type_size};
 ghost use Rattle.std.proofs.Common.{rules};
-ghost use Rattle.meaning.specs.Methods.{round, absolute, digits};
+ghost use Rattle.meaning.specs.Readings.{sign, magnitude, infinity};
+ghost use Rattle.meaning.specs.Methods.{round, absolute, digits, halfshaved, clips, new_magnitude};
 ghost use Rattle.powers.specs.Table.{powers};
-ghost use Rattle.reading.specs.Left.{settled_by, settled_tail, takes};
+ghost use Rattle.reading.specs.Left.{unless_missing, left_from, settled_by, settled_tail, takes, over};
 ghost use Rattle.reading.specs.Tails.{constants, TailOf};
-ghost use Rattle.reading.specs.Words.{settled_at, constants_at, settled_of, constants_of};
+ghost use Rattle.reading.specs.Words.{settled_at, constants_at};
+ghost use Rattle.word.specs.Widths.{one_finite_single, one_finite_double};
 
+use absolute::Coarse;
 use reading::{Tail, Trimmed};
+
+pub mod one;
+
+// What is left of a reading by its new pattern: the new pattern, or the reading itself where it is missing; the pattern that is left, which is the reading too where the former is the mark; and
+// what the reading loses by that, a difference that wraps around.
+#[derive(Clone, Copy)]
+pub struct Left<W> {
+    pub wanted: W,
+    pub pattern: W,
+    pub lost: W,
+}
 
 pub trait Word: Copy + Drop {
     // How many bits its floats have for the fraction and for the exponent, and the most digits that they can keep.
@@ -40,6 +54,9 @@ pub trait Word: Copy + Drop {
     fn zero() -> Self
         ensures { value result ≡ 0 };
 
+    fn one() -> Self
+        ensures { value result ≡ 1 };
+
     // The word as a number of 64 bits.
     fn wide(self) -> u64
         ensures { result ≡ value self };
@@ -64,38 +81,125 @@ pub trait Word: Copy + Drop {
     fn choose(self, other: Self, yes: Self, no: Self) -> Self
         ensures { value result ≡ (if nat_eq (value self) (value other) then value yes else value no) };
 
+    // 2^t, and the word by that.
+    fn unit(t: u32) -> Self
+        requires { t ≤ FRACTION }
+        ensures { value result ≡ 2 ^ t };
+
+    fn shifted(self, t: u32) -> Self
+        requires { t ≤ FRACTION }
+        ensures { value result ≡ value self / 2 ^ t };
+
+    // Half the word, rounded down.
+    fn half(self) -> Self
+        ensures { value result ≡ value self / 2 };
+
+    fn sum(self, more: Self) -> Self
+        requires { value self + value more < 2 ^ (FRACTION + EXPONENT + 1) }
+        ensures { value result ≡ value self + value more };
+
+    fn minus(self, less: Self) -> Self
+        requires { value less ≤ value self }
+        ensures { value result ≡ value self - value less };
+
+    fn wrapping_add(self, more: Self) -> Self
+        ensures { value result ≡ (value self + value more) % 2 ^ (FRACTION + EXPONENT + 1) };
+
+    fn wrapping_sub(self, less: Self) -> Self
+        ensures { value result ≡ (value self + (2 ^ (FRACTION + EXPONENT + 1) - value less)) % 2 ^ (FRACTION + EXPONENT + 1) };
+
+    // The sign of a reading, and its magnitude. A word has one bit more than its magnitudes.
+    fn sign(self) -> Self
+        ensures { value result ≡ sign FRACTION EXPONENT (value self) };
+
+    fn magnitude(self) -> Self
+        ensures value { value result ≡ magnitude FRACTION EXPONENT (value self) }
+        ensures room { value self < 2 ^ (FRACTION + EXPONENT + 1) };
+
+    // `yes` where this is a finite magnitude, `no` where it isn't.
+    fn finite(self, yes: Self, no: Self) -> Self
+        ensures { value result ≡ (if nat_lt (value self) (infinity FRACTION EXPONENT) then value yes else value no) };
+
+    // What is left of a reading whose new pattern would be `new`.
+    fn left(self, new: Self, mark: Self) -> Left<Self>
+        ensures wanted { value result.wanted ≡ unless_missing (value mark) (value self) (value new) }
+        ensures pattern { value result.pattern ≡ left_from (value mark) (value self) (value new) }
+        ensures lost { (value result.lost + value result.pattern) % 2 ^ (FRACTION + EXPONENT + 1) ≡ value self }
+        ensures room { (value self < 2 ^ (FRACTION + EXPONENT + 1)) × (value result.pattern < 2 ^ (FRACTION + EXPONENT + 1)) × (value result.lost < 2 ^ (FRACTION + EXPONENT + 1)) };
+
+    // The new magnitude of a finite one by method 5 with the unit 2^q, by the float adder.
+    fn added_step(self, q: u32) -> Self
+        requires { (value self < infinity FRACTION EXPONENT) × (FINE ≤ q) × (q ≤ COARSE) }
+        ensures magnitude { value result ≡ new_magnitude FRACTION EXPONENT (absolute q) 0 (value self) }
+        ensures unclipped { clips FRACTION EXPONENT (absolute q) (value self) ≡ false };
+
+    // The same with any unit.
+    fn step(self, q: u32) -> Coarse<Self>
+        requires { value self < infinity FRACTION EXPONENT }
+        ensures magnitude { value result.magnitude ≡ new_magnitude FRACTION EXPONENT (absolute q) 0 (value self) }
+        ensures clipped { value result.clipped ≡ (if clips FRACTION EXPONENT (absolute q) (value self) then 1 else 0) };
+
+    // How many bits of a finite magnitude that is not zero are its tail by method 6 with n digits.
+    fn digits_tail(self, table: &[u64; 633], n: u32) -> u32
+        requires { (0 < value self) × (value self < infinity FRACTION EXPONENT) × (1 ≤ n) × (n ≤ DIGITS) × (table.now ≡ powers) }
+        ensures { (result ≤ FRACTION) × (new_magnitude FRACTION EXPONENT (digits n) 0 (value self) ≡ halfshaved result (value self)) };
+
     // `bit` where a reading takes a turn when an array is groomed; 0 where it is missing or isn't finite.
-    fn turn(self, bit: Self, mark: Self) -> Self
-        ensures { value result ≡ takes FRACTION EXPONENT (value bit) (value mark) (value self) };
+    final fn turn(self, bit: Self, mark: Self) -> Self
+        ensures { value result ≡ takes FRACTION EXPONENT (value bit) (value mark) (value self) }
+    {
+        one::turn(self, bit, mark)
+    }
 
     // The tail under k keep bits.
-    fn tail_of(k: u32) -> Tail<Self>
+    final fn tail_of(k: u32) -> Tail<Self>
         requires { k ≤ FRACTION }
-        ensures { constants_at value result ≡ constants FRACTION k };
+        ensures { constants_at value result ≡ constants FRACTION k }
+    {
+        one::tail_of(k)
+    }
 
     // Methods 0 to 3: the tail becomes `add`, and zero stays.
-    fn with_tail(self, tail: Tail<Self>, add: Self, mark: Self) -> Trimmed<Self>
+    final fn with_tail(self, tail: Tail<Self>, add: Self, mark: Self) -> Trimmed<Self>
         requires { (TailOf FRACTION (constants_at value tail)) × (value add ≤ value tail.ones) }
-        ensures { settled_at value result ≡ settled_tail FRACTION EXPONENT tail.bits (value add) (value mark) (value self) };
+        ensures { settled_at value result ≡ settled_tail FRACTION EXPONENT tail.bits (value add) (value mark) (value self) }
+    {
+        one::with_tail(self, tail, add, mark)
+    }
 
     // Method 4 with a tail, not none.
-    fn rounded(self, tail: Tail<Self>, mark: Self) -> Trimmed<Self>
+    final fn rounded(self, tail: Tail<Self>, mark: Self) -> Trimmed<Self>
         requires { (TailOf FRACTION (constants_at value tail)) × (1 ≤ tail.bits) }
-        ensures { settled_at value result ≡ settled_by FRACTION EXPONENT (round (FRACTION - tail.bits)) (value mark) 0 (value self) };
+        ensures { settled_at value result ≡ settled_by FRACTION EXPONENT (round (FRACTION - tail.bits)) (value mark) 0 (value self) }
+    {
+        one::rounded(self, tail, mark)
+    }
 
     // Method 5 with the unit 2^q, for the units that the float adder serves.
-    fn stepped(self, q: u32, mark: Self) -> Trimmed<Self>
+    final fn stepped(self, q: u32, mark: Self) -> Trimmed<Self>
         requires { (FINE ≤ q) × (q ≤ COARSE) }
-        ensures { settled_at value result ≡ settled_by FRACTION EXPONENT (absolute q) (value mark) 0 (value self) };
+        ensures { settled_at value result ≡ settled_by FRACTION EXPONENT (absolute q) (value mark) 0 (value self) }
+    {
+        one::stepped(self, q, mark)
+    }
 
     // Method 5 with any unit.
-    fn stepped_by_words(self, q: u32, mark: Self) -> Trimmed<Self>
-        ensures { settled_at value result ≡ settled_by FRACTION EXPONENT (absolute q) (value mark) 0 (value self) };
+    final fn stepped_by_words(self, q: u32, mark: Self) -> Trimmed<Self>
+        ensures { settled_at value result ≡ settled_by FRACTION EXPONENT (absolute q) (value mark) 0 (value self) }
+    {
+        one::stepped_by_words(self, q, mark)
+    }
 
     // Method 6 with n digits, by the table of the powers of ten.
-    fn with_digits(self, table: &[u64; 633], n: u32, mark: Self) -> Trimmed<Self>
+    final fn with_digits(self, table: &[u64; 633], n: u32, mark: Self) -> Trimmed<Self>
         requires { ((1 ≤ n) × (n ≤ DIGITS)) × (table.now ≡ powers) }
-        ensures { settled_at value result ≡ settled_by FRACTION EXPONENT (digits n) (value mark) 0 (value self) };
+        ensures { settled_at value result ≡ settled_by FRACTION EXPONENT (digits n) (value mark) 0 (value self) }
+    {
+        one::with_digits(self, table, n, mark)
+    }
+
+    // One is a finite magnitude.
+    ghost one_finite: { 1 < infinity FRACTION EXPONENT };
 
     // A word has at most 8 bytes, so that an array of 513 of them may be lent.
     ghost narrow: { type_size Self.row ≤ 8 };
@@ -122,8 +226,14 @@ impl Word for u32 {
 
     ghost narrow = { Prim.search rules };
 
+    ghost one_finite = { one_finite_single };
+
     fn zero() -> Self {
         0
+    }
+
+    fn one() -> Self {
+        1
     }
 
     fn wide(self) -> u64 {
@@ -147,41 +257,72 @@ impl Word for u32 {
     }
 
     fn choose(self, other: Self, yes: Self, no: Self) -> Self {
-        single::choose_single(self, other, yes, no)
+        if self == other { yes } else { no }
     }
 
-    fn turn(self, bit: Self, mark: Self) -> Self {
-        single::turn_single(self, bit, mark)
+    fn unit(t: u32) -> Self {
+        1 << t
     }
 
-    fn tail_of(k: u32) -> Tail<Self> {
-        single::tail_of(k)
+    fn shifted(self, t: u32) -> Self {
+        self >> t
     }
 
-    fn with_tail(self, tail: Tail<Self>, add: Self, mark: Self) -> Trimmed<Self>
-        requires { (TailOf 23 (constants_of tail)) × (add ≤ tail.ones) }
-        ensures { settled_of result ≡ settled_tail 23 8 tail.bits add mark self }
-    {
-        single::tail_single(self, tail, add, mark)
+    fn half(self) -> Self {
+        self / 2
     }
 
-    fn rounded(self, tail: Tail<Self>, mark: Self) -> Trimmed<Self>
-        requires { (TailOf 23 (constants_of tail)) × (1 ≤ tail.bits) }
-        ensures { settled_of result ≡ settled_by 23 8 (round (23 - tail.bits)) mark 0 self }
-    {
-        single::round_single(self, tail, mark)
+    fn sum(self, more: Self) -> Self {
+        self + more
     }
 
-    fn stepped(self, q: u32, mark: Self) -> Trimmed<Self> {
-        single::fine_single(self, q, mark)
+    fn minus(self, less: Self) -> Self {
+        self - less
     }
 
-    fn stepped_by_words(self, q: u32, mark: Self) -> Trimmed<Self> {
-        single::coarse_single(self, q, mark)
+    fn wrapping_add(self, more: Self) -> Self {
+        std::num::wrapping_add_u32(self, more)
     }
 
-    fn with_digits(self, table: &[u64; 633], n: u32, mark: Self) -> Trimmed<Self> {
-        single::digit_single(table, self, n, mark)
+    fn wrapping_sub(self, less: Self) -> Self {
+        std::num::wrapping_sub_u32(self, less)
+    }
+
+    fn sign(self) -> Self {
+        self >> 31
+    }
+
+    fn magnitude(self) -> Self {
+        self % 0x8000_0000
+    }
+
+    fn finite(self, yes: Self, no: Self) -> Self {
+        if self < 0x7f80_0000 { yes } else { no }
+    }
+
+    // The patterns come from what the reading loses too: the loops over singles are faster so than by a choice between patterns, as doubles have it.
+    fn left(self, new: Self, mark: Self) -> Left<Self> {
+        let loses = self.choose(mark, 0, std::num::wrapping_sub_u32(self, new));
+        let wanted = std::num::wrapping_sub_u32(self, loses);
+        let lost = wanted.choose(mark, 0, loses);
+        let pattern = std::num::wrapping_sub_u32(self, lost);
+        Left {
+            wanted,
+            pattern,
+            lost,
+        }
+    }
+
+    fn added_step(self, q: u32) -> Self {
+        absolute::fine_single(self, q)
+    }
+
+    fn step(self, q: u32) -> Coarse<Self> {
+        absolute::coarse_single(self, q)
+    }
+
+    fn digits_tail(self, table: &[u64; 633], n: u32) -> u32 {
+        digit_tails::single_tail(table, self, n)
     }
 }
 
@@ -206,8 +347,14 @@ impl Word for u64 {
 
     ghost narrow = { Prim.search rules };
 
+    ghost one_finite = { one_finite_double };
+
     fn zero() -> Self {
         0
+    }
+
+    fn one() -> Self {
+        1
     }
 
     fn wide(self) -> u64 {
@@ -231,40 +378,72 @@ impl Word for u64 {
     }
 
     fn choose(self, other: Self, yes: Self, no: Self) -> Self {
-        double::choose_double(self, other, yes, no)
+        if self == other { yes } else { no }
     }
 
-    fn turn(self, bit: Self, mark: Self) -> Self {
-        double::turn_double(self, bit, mark)
+    fn unit(t: u32) -> Self {
+        1 << t
     }
 
-    fn tail_of(k: u32) -> Tail<Self> {
-        double::tail_of(k)
+    fn shifted(self, t: u32) -> Self {
+        self >> t
     }
 
-    fn with_tail(self, tail: Tail<Self>, add: Self, mark: Self) -> Trimmed<Self>
-        requires { (TailOf 52 (constants_of tail)) × (add ≤ tail.ones) }
-        ensures { settled_of result ≡ settled_tail 52 11 tail.bits add mark self }
-    {
-        double::tail_double(self, tail, add, mark)
+    fn half(self) -> Self {
+        self / 2
     }
 
-    fn rounded(self, tail: Tail<Self>, mark: Self) -> Trimmed<Self>
-        requires { (TailOf 52 (constants_of tail)) × (1 ≤ tail.bits) }
-        ensures { settled_of result ≡ settled_by 52 11 (round (52 - tail.bits)) mark 0 self }
-    {
-        double::round_double(self, tail, mark)
+    fn sum(self, more: Self) -> Self {
+        self + more
     }
 
-    fn stepped(self, q: u32, mark: Self) -> Trimmed<Self> {
-        double::fine_double(self, u64::from(q), mark)
+    fn minus(self, less: Self) -> Self {
+        self - less
     }
 
-    fn stepped_by_words(self, q: u32, mark: Self) -> Trimmed<Self> {
-        double::coarse_double(self, u64::from(q), mark)
+    fn wrapping_add(self, more: Self) -> Self {
+        std::num::wrapping_add_u64(self, more)
     }
 
-    fn with_digits(self, table: &[u64; 633], n: u32, mark: Self) -> Trimmed<Self> {
-        double::digit_double(table, self, n, mark)
+    fn wrapping_sub(self, less: Self) -> Self {
+        std::num::wrapping_sub_u64(self, less)
+    }
+
+    fn sign(self) -> Self {
+        self >> 63
+    }
+
+    fn magnitude(self) -> Self {
+        self % 0x8000_0000_0000_0000
+    }
+
+    fn finite(self, yes: Self, no: Self) -> Self {
+        if self < 0x7ff0_0000_0000_0000 {
+            yes
+        } else {
+            no
+        }
+    }
+
+    fn left(self, new: Self, mark: Self) -> Left<Self> {
+        let wanted = self.choose(mark, self, new);
+        let pattern = wanted.choose(mark, self, wanted);
+        Left {
+            wanted,
+            pattern,
+            lost: std::num::wrapping_sub_u64(self, pattern),
+        }
+    }
+
+    fn added_step(self, q: u32) -> Self {
+        absolute::fine_double(self, u64::from(q))
+    }
+
+    fn step(self, q: u32) -> Coarse<Self> {
+        absolute::coarse_double(self, u64::from(q))
+    }
+
+    fn digits_tail(self, table: &[u64; 633], n: u32) -> u32 {
+        digit_tails::double_tail(table, self, n)
     }
 }

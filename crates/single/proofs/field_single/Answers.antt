@@ -47,7 +47,7 @@ pub returns : goal.returns
 unfolding magnitude
 returns c =
     let d = c.decade_single-s in
-    c.settle_single.ensures
+    c.settle.ensures
     ∙ settled_by_lem 23 8 (digits c.args.n) c.args.mark c.args.x (new_magnitude 23 8 (digits c.args.n) 0 (magnitude 23 8 c.args.x)) 0 _
     (λ _. refl) (λ _. digits_over 23 8 c.args.n c.args.x)
     (new_is c.args.n c.args.x d.result c.args.limits.now c.args.masks.now

@@ -1,7 +1,0 @@
--- 1 shifted by t, below the width.
-use Rattle.std.proofs.Common.{mod-eq_of_lt, one-mul, arith}
-use lib.Pow.{pow-lt}
-use Rattle.double.proofs.power_double.Goals as goal
-
-pub returns : goal.returns
-returns c = rw one-mul (mod-eq_of_lt (pow-lt {i = c.args.t} {j = 64} (omega arith)))

@@ -1,0 +1,7 @@
+-- The magnitude is finite.
+use Rattle.meaning.specs.Readings.{infinity}
+use Rattle.word.proofs.U32Word.step.Goals as goal
+
+pub coarse_single-requires : goal.coarse_single-requires
+unfolding infinity
+coarse_single-requires c = c.requires
