@@ -21,7 +21,7 @@ fn run_singles(readings: &mut [u32], methods: &[u32], settings: &[i32], mark: u3
     }
 }
 
-// The calls of a list over doubles.
+// The calls of a list over doubles. One function for both would take a closure that changes the array, and its contract would say again what `trim` says: no plainer.
 fn run_doubles(readings: &mut [u64], methods: &[u32], settings: &[i32], mark: u64)
     ensures { readings.new ≡ in_turn 52 11 (calls_of methods.now settings.now) mark readings.old }
 {

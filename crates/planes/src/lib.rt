@@ -63,7 +63,7 @@ pub fn trim_planes_singles(
     Ok(trim::counted(sums))
 }
 
-// ---- doubles
+// ---- doubles: they differ from the singles by the bytes of a reading and by each call that they make, so one generic function would be no plainer
 
 // Writes the planes of an array of doubles, lowest byte first. Refused with 13, and nothing written, unless there are exactly 8 bytes for each reading.
 #[tactic(auto, using(crate::proofs::Calls::to_refused, crate::proofs::Calls::to_done))]

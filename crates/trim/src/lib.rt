@@ -52,6 +52,7 @@ pub fn trim_singles(
     Ok(counted(sums))
 }
 
+// The two array calls differ by each call that they make and by both widths in each clause: a generic one would be a closure for each line, and no plainer.
 // Trims an array of doubles in place by a method, 0 to 6, and its setting. The mark means missing and is compared by its bits. Answers the six counts, or the
 // refusal's number: 1 for an unknown method, 2 for a setting out of its range; then the array is as it was.
 pub fn trim_doubles(
