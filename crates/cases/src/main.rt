@@ -37,7 +37,7 @@ fn about(rt: &impl Eprint) {
     );
 }
 
-// Reads until `text` is full, the input ends or a read fails: how many bytes came.
+// Reads until `text` is full, the input ends or a read fails: how many bytes came. A `while`, since each read says where the next one begins.
 fn read_full(input: &mut impl Read, text: &mut [u8]) -> usize
     ensures { result ≤ length text.new }
 {
