@@ -5,7 +5,7 @@ ghost use Rattle.std.specs.Prelude.{◌≡◌, max};
 ghost use Rattle.meaning.specs.Questions.{all, packable};
 ghost use Rattle.asking_readings.specs.Largest.{largest_present};
 
-// The larger of two numbers. By a test, and not by the library's `max`: with that the compiler joins it with the choice before it, and takes one reading at a time.
+// The larger of two numbers. By a test, and not by the library's `max` in a fold: there the compiler joined it with the choice before it, and took one reading at a time.
 fn larger(a: u32, b: u32) -> u32
     ensures { result ≡ max a b }
 {
