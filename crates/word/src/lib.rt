@@ -4,6 +4,7 @@
 
 ghost use Rattle.std.specs.Prelude.{◌≡◌, ℕ, false, ◌+◌, ◌-◌, ◌/◌, ◌%◌, ◌^◌, ◌<◌, ◌≤◌, if◌then◌else◌, nat_eq, nat_lt};
 ghost use Rattle.std.specs.Int.Bits.{bit_and, bit_xor};
+ghost use Rattle.std.proofs.Common.{rules};
 ghost use Rattle.meaning.specs.Readings.{sign, magnitude, infinity};
 ghost use Rattle.meaning.specs.Methods.{round, absolute, digits, halfshaved, clips, new_magnitude};
 ghost use Rattle.powers.specs.Table.{powers};
@@ -59,16 +60,6 @@ pub trait Word: Copy + Drop {
     fn wide(self) -> u64
         ensures { result ≡ value self };
 
-    // The sum of two counts.
-    fn plus(self, more: Self) -> Self
-        requires { value self + value more < 2 ^ 32 }
-        ensures { value result ≡ value self + value more };
-
-    // The bit of row r.
-    fn bit(r: u32) -> Self
-        requires { r ≤ 31 }
-        ensures { value result ≡ 2 ^ r };
-
     fn and(self, other: Self) -> Self
         ensures { value result ≡ bit_and (value self) (value other) };
 
@@ -81,16 +72,12 @@ pub trait Word: Copy + Drop {
 
     // 2^t, and the word by that.
     fn unit(t: u32) -> Self
-        requires { t ≤ FRACTION }
+        requires { t ≤ FRACTION + EXPONENT }
         ensures { value result ≡ 2 ^ t };
 
     fn shifted(self, t: u32) -> Self
-        requires { t ≤ FRACTION }
+        requires { t ≤ FRACTION + EXPONENT }
         ensures { value result ≡ value self / 2 ^ t };
-
-    // Half the word, rounded down.
-    fn half(self) -> Self
-        ensures { value result ≡ value self / 2 };
 
     fn sum(self, more: Self) -> Self
         requires { value self + value more < 2 ^ (FRACTION + EXPONENT + 1) }
@@ -141,6 +128,22 @@ pub trait Word: Copy + Drop {
     fn digits_tail(self, table: &[u64; 633], n: u32) -> u32
         requires { (0 < value self) × (value self < infinity FRACTION EXPONENT) × (1 ≤ n) × (n ≤ DIGITS) × (table.now ≡ powers) }
         ensures { (result ≤ FRACTION) × (new_magnitude FRACTION EXPONENT (digits n) 0 (value self) ≡ halfshaved result (value self)) };
+
+    // The sum of two counts.
+    final fn plus(self, more: Self) -> Self
+        requires { value self + value more < 2 ^ 32 }
+        ensures { value result ≡ value self + value more }
+    {
+        self.sum(more)
+    }
+
+    // The bit of row r.
+    final fn bit(r: u32) -> Self
+        requires { r ≤ 31 }
+        ensures { value result ≡ 2 ^ r }
+    {
+        Self::unit(r)
+    }
 
     // `bit` where a reading takes a turn when an array is groomed; 0 where it is missing or isn't finite.
     final fn turn(self, bit: Self, mark: Self) -> Self
@@ -196,10 +199,13 @@ pub trait Word: Copy + Drop {
         one::with_digits(self, table, n, mark)
     }
 
-    // One is a finite magnitude.
+    // A word has at least 32 bits, and one is a finite magnitude.
+    ghost bits: { 31 ≤ FRACTION + EXPONENT };
+
     ghost one_finite: { 1 < infinity FRACTION EXPONENT };
 }
 
+// The two impls say the same operators of two types: each is one line, and no macro may write an impl.
 impl Word for u32 {
     const FRACTION: u32 = 23;
 
@@ -219,6 +225,8 @@ impl Word for u32 {
 
     ghost value = { λ w. w };
 
+    ghost bits = { Prim.search rules };
+
     ghost one_finite = { one_finite_single };
 
     fn zero() -> Self {
@@ -231,14 +239,6 @@ impl Word for u32 {
 
     fn wide(self) -> u64 {
         u64::from(self)
-    }
-
-    fn plus(self, more: Self) -> Self {
-        self + more
-    }
-
-    fn bit(r: u32) -> Self {
-        1 << r
     }
 
     fn and(self, other: Self) -> Self {
@@ -254,15 +254,11 @@ impl Word for u32 {
     }
 
     fn unit(t: u32) -> Self {
-        1 << t
+        1u32 << t
     }
 
     fn shifted(self, t: u32) -> Self {
         self >> t
-    }
-
-    fn half(self) -> Self {
-        self / 2
     }
 
     fn sum(self, more: Self) -> Self {
@@ -338,6 +334,8 @@ impl Word for u64 {
 
     ghost value = { λ w. w };
 
+    ghost bits = { Prim.search rules };
+
     ghost one_finite = { one_finite_double };
 
     fn zero() -> Self {
@@ -350,14 +348,6 @@ impl Word for u64 {
 
     fn wide(self) -> u64 {
         self
-    }
-
-    fn plus(self, more: Self) -> Self {
-        self + more
-    }
-
-    fn bit(r: u32) -> Self {
-        1 << r
     }
 
     fn and(self, other: Self) -> Self {
@@ -373,15 +363,11 @@ impl Word for u64 {
     }
 
     fn unit(t: u32) -> Self {
-        1 << t
+        1u64 << t
     }
 
     fn shifted(self, t: u32) -> Self {
         self >> t
-    }
-
-    fn half(self) -> Self {
-        self / 2
     }
 
     fn sum(self, more: Self) -> Self {

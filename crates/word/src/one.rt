@@ -64,7 +64,7 @@ pub fn tail_of<W: Word>(k: u32) -> Tail<W>
     Tail {
         bits: t,
         ones,
-        half: unit.half(),
+        half: unit.shifted(1),
     }
 }
 
