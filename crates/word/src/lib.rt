@@ -4,6 +4,7 @@
 
 ghost use Rattle.std.specs.Prelude.{◌≡◌, ℕ, false, ◌+◌, ◌-◌, ◌/◌, ◌%◌, ◌^◌, ◌<◌, ◌≤◌, if◌then◌else◌, nat_eq, nat_lt};
 ghost use Rattle.std.specs.Int.Bits.{bit_and, bit_xor};
+ghost use Rattle.std.specs.Mem.{type_size};
 ghost use Rattle.std.proofs.Common.{rules};
 ghost use Rattle.meaning.specs.Readings.{sign, magnitude, infinity};
 ghost use Rattle.meaning.specs.Methods.{round, absolute, digits, halfshaved, clips, new_magnitude};
@@ -199,8 +200,10 @@ pub trait Word: Copy + Drop {
         one::with_digits(self, table, n, mark)
     }
 
-    // A word has at least 32 bits, and one is a finite magnitude.
+    // A word has at least 32 bits, and at most 8 bytes, so that an array of 513 of them may be lent. One is a finite magnitude.
     ghost bits: { 31 ≤ FRACTION + EXPONENT };
+
+    ghost narrow: { type_size Self.row ≤ 8 };
 
     ghost one_finite: { 1 < infinity FRACTION EXPONENT };
 }
@@ -226,6 +229,8 @@ impl Word for u32 {
     ghost value = { λ w. w };
 
     ghost bits = { Prim.search rules };
+
+    ghost narrow = { Prim.search rules };
 
     ghost one_finite = { one_finite_single };
 
@@ -335,6 +340,8 @@ impl Word for u64 {
     ghost value = { λ w. w };
 
     ghost bits = { Prim.search rules };
+
+    ghost narrow = { Prim.search rules };
 
     ghost one_finite = { one_finite_double };
 
