@@ -9,6 +9,7 @@ ghost use Rattle.summary.specs.Summaries.{Packable};
 ghost use Rattle.all_layers.specs.Arrays.{Fit, packed_references, packed_exponents};
 
 // Packs the layers, runs of `run` readings, one after another, each by its own width into its own part of the codes. All lengths fit, and each reading is finite or missing.
+// What a layer has stands in three arrays, as C lends them. Its part is cut by hand: of a slice that `chunks_mut` lent, a proof knows the length alone.
 pub fn pack_layers(
     readings: &[u32],
     run: usize,
@@ -24,17 +25,12 @@ pub fn pack_layers(
     ensures references { map (to_bits binary32) references.new ≡ packed_references mark run widths.now readings.now }
     ensures exponents { exponents.new ≡ packed_exponents mark run widths.now readings.now }
 {
-    let mut from: usize = 0;
-    let mut i: usize = 0;
-    while i < references.len() {
+    let mut from = 0;
+    for (i, width) in widths.iter().enumerate() {
         let to = from + run;
-        let part = &readings[from..to];
-        let width = widths[i];
-        let layer = layering::pack_layer(part, mark, width, &mut codes[from..to]);
+        let layer = layering::pack_layer(&readings[from..to], mark, *width, &mut codes[from..to]);
         references[i] = layer.reference;
-        let x = layer.exponent;
-        exponents[i] = x;
+        exponents[i] = layer.exponent;
         from = to;
-        i += 1;
     }
 }

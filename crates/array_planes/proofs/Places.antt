@@ -2,29 +2,37 @@
 use mathlib.Core.Path.{◌≡◌, refl, sym, ap, ap₂, ◌∙◌}
 use mathlib.Core.List.{List, [], ◌∷◌, ◌++◌, map, zip_with, append_assoc, append-nil}
 use Prim.Native.Nat.{ℕ, zero, suc, ◌+◌, ◌-◌, ◌*◌, ◌/◌, ◌%◌, ◌^◌, ◌≤◌, ◌<◌}
-use native.Mathlib.Nat.{pow-zero, pow-suc, suc-mul, mul_assoc, mul_comm, zero-mul, add-mul, div-one, div-div-eq-div-mul}
+use native.Mathlib.Nat.{pow-zero, pow-suc, suc-mul, mul_assoc, mul_comm, zero-mul, div-one, div-div-eq-div-mul}
 use native.Mathlib.Omega.{arith}
 use lib.Arith.{mod-mul}
 use lib.ListN.{length, take, drop, replicate, length-take, length-drop, length-map, length-replicate}
 use lib.Seq.{take_all, take-add, drop-drop, length-take-le}
+use Rattle.std.proofs.lemmas.List.{map-append}
 use Rattle.meaning.specs.Planes.{planes, readings}
 use Rattle.meaning.proofs.Planes.{zip_length}
-use Rattle.parts.proofs.Back.{back, length_back, take_back, back_own, back_before, back_after, back_join, back_apart}
+use Rattle.parts.proofs.Back.{back, length_back, take_back, back_before, back_after, back_join, back_apart}
 use Rattle.array_planes.specs.Places.{stored, fetched, Room}
 
 -- ---- lists
-
-map_append : (f : ℕ → ℕ) (us vs : List ℕ) → map f (us ++ vs) ≡ map f us ++ map f vs
-map_append f [] vs = refl
-map_append f (u ∷ us) vs = ap (λ (l : List ℕ). f u ∷ l) (map_append f us vs)
 
 map_as : (f g : ℕ → ℕ) → ((w : ℕ) → f w ≡ g w) → (ws : List ℕ) → map f ws ≡ map g ws
 map_as f g e [] = refl
 map_as f g e (w ∷ ws) = ap₂ (λ (x : ℕ) (l : List ℕ). x ∷ l) (e w) (map_as f g e ws)
 
-map_map : (f g : ℕ → ℕ) (ws : List ℕ) → map f (map g ws) ≡ map (λ w. f (g w)) ws
+-- numbers that are read as themselves
+pub map_same : (ws : List ℕ) → map (λ w. w) ws ≡ ws
+map_same [] = refl
+map_same (w ∷ ws) = ap (λ (l : List ℕ). w ∷ l) (map_same ws)
+
+map_map : {W : Type 0} (f : ℕ → ℕ) (g : W → ℕ) (ws : List W) → map f (map g ws) ≡ map (λ w. f (g w)) ws
 map_map f g [] = refl
 map_map f g (w ∷ ws) = ap (λ (l : List ℕ). f (g w) ∷ l) (map_map f g ws)
+
+zip_maps : {H : Type 0} (f : ℕ → ℕ → ℕ) (u : H → ℕ) (xs ys : List H) → zip_with (λ x y. f (u x) (u y)) xs ys ≡ zip_with f (map u xs) (map u ys)
+unfolding zip_with
+zip_maps f u [] ys = refl
+zip_maps f u (x ∷ xs) [] = refl
+zip_maps f u (x ∷ xs) (y ∷ ys) = ap (λ (l : List ℕ). f (u x) (u y) ∷ l) (zip_maps f u xs ys)
 
 zip_append : (f : ℕ → ℕ → ℕ) (us vs xs ys : List ℕ) → length us ≡ length xs → zip_with f (us ++ vs) (xs ++ ys) ≡ zip_with f us xs ++ zip_with f vs ys
 unfolding zip_with
@@ -85,7 +93,7 @@ stored_append (suc B) n a j k us vs ps e f h r =
     let pl : length p ≡ length ps = length_back ps a j (map low us) lu (omega arith) in
     let q = back p (a + j) k (map low vs) in
     let ql : length q ≡ length ps = length_back p (a + j) k (map low vs) lv (omega arith) ∙ pl in
-    ap₂ (λ (hs xs : List ℕ). stored B n (n + a) (j + k) hs (back ps a (j + k) xs)) (map_append high us vs) (map_append low us vs)
+    ap₂ (λ (hs xs : List ℕ). stored B n (n + a) (j + k) hs (back ps a (j + k) xs)) (map-append high us vs) (map-append low us vs)
     ∙ ap (stored B n (n + a) (j + k) (map high us ++ map high vs)) (back_join ps a j k (map low us) (map low vs) lu (omega arith))
     ∙ stored_append B n (n + a) j k (map high us) (map high vs) q hu hv h (rw ql next)
     ∙ ap (stored B n (n + a + j) k (map high vs)) (stored_back B n (n + a) j (map high us) p (a + j) k (map low vs) hu lv (omega arith) (rw pl (omega arith)))
@@ -110,10 +118,6 @@ unfolding stored
 stored_add zero B n a k ws ps =
     let z : 0 * n + a ≡ a = omega (arith, zero-mul n) in
     rw (z, map_as (λ w. w / 256 ^ 0) (λ w. w) (λ w. div-one w) ws, map_same ws) (ap (λ (m : ℕ). stored m n a k ws ps) {x = 0 + B} {y = B} (omega arith))
-  where
-    map_same : (l : List ℕ) → map (λ (w : ℕ). w) l ≡ l
-    map_same [] = refl
-    map_same (w ∷ l) = ap (λ (t : List ℕ). w ∷ t) (map_same l)
 stored_add (suc A) B n a k ws ps =
     let z : A * n + (n + a) ≡ suc A * n + a = omega (arith, suc-mul A n) in
     let hs = map (λ (w : ℕ). w / 256) ws in
@@ -291,37 +295,28 @@ fetched_pairs n a k ps =
     let above = take k (drop (n + a) ps) in
     rw (part_long a k, part_far n a k) (sym (ap (zip_with (λ low high. low + 256 * high) (take k (drop a ps))) (none_above k above (simp length-take (omega arith)))))
 
--- a block's halves, written to the front of a local array z and taken from there
-front : (z ys : List ℕ) (k : ℕ) → length ys ≡ k → k ≤ length z → take (k - 0) (drop 0 (back z 0 (k - 0) ys)) ≡ ys
-front z ys k e h = let d : k - 0 ≡ k = omega arith in rw d (back_own z 0 k ys e (omega arith))
-
-pub front_long : (z : List ℕ) (k : ℕ) → k ≤ length z → length (take (k - 0) (drop 0 z)) ≡ k
+pub front_long : {A : Type 0} (z : List A) (k : ℕ) → k ≤ length z → length (take (k - 0) (drop 0 z)) ≡ k
 front_long z k h = simp length-take (omega arith)
 
-module _ (B n a k : ℕ) (ps : List ℕ) where
-  pub stored_block : (ws z : List ℕ) → length ws ≡ k → k ≤ length z → {ys zs qs rs : List ℕ} → let us = take (k - 0) (drop 0 (back z 0 (k - 0) ys)) in
-      let vs = take (k - 0) (drop 0 (back (back z 0 (k - 0) ys) 0 (k - 0) zs)) in
-      ys ≡ map (λ w. w / 1 % 256 ^ B) ws → qs ≡ stored B n a (length us) us ps → zs ≡ map (λ w. w / 256 ^ B % 256 ^ B) ws → rs ≡ stored B n (B * n + a) (length vs) vs qs
-      → rs ≡ stored (B + B) n a k ws ps
-  stored_block ws z e h {ys} {zs} {qs} {rs} ey eq ez er =
-      let yl : length ys ≡ k = ap length ey ∙ length-map ws (λ (w : ℕ). w / 1 % 256 ^ B) ∙ e in
-      let zl : length zs ≡ k = ap length ez ∙ length-map ws (λ (w : ℕ). w / 256 ^ B % 256 ^ B) ∙ e in
-      let d : k - 0 ≡ k = omega arith in
-      let bl : length (back z 0 (k - 0) ys) ≡ length z = length_back z 0 (k - 0) ys (yl ∙ sym d) (omega arith) in
+-- a block ws of numbers that v reads, by its halves, which u reads; the high ones begin at the byte m
+module _ {W H : Type 0} (v : W → ℕ) (u : H → ℕ) (B n a : ℕ) (ps : List ℕ) (m : ℕ) (em : m ≡ B) where
+  -- written: the low halves xs, then the high ones ys
+  pub stored_block : (ws : List W) (xs ys : List H) {qs rs : List ℕ} → map u xs ≡ map (λ w. v w / 1 % 256 ^ B) ws → qs ≡ stored B n a (length xs) (map u xs) ps
+      → map u ys ≡ map (λ w. v w / 256 ^ m % 256 ^ B) ws → rs ≡ stored B n (m * n + a) (length ys) (map u ys) qs → rs ≡ stored (B + B) n a (length ws) (map v ws) ps
+  stored_block ws xs ys {qs} {rs} ex eq ey er =
+      let k = length ws in
+      let xl : length xs ≡ k = sym (length-map xs u) ∙ ap length ex ∙ length-map ws (λ (w : W). v w / 1 % 256 ^ B) in
+      let yl : length ys ≡ k = sym (length-map ys u) ∙ ap length ey ∙ length-map ws (λ (w : W). v w / 256 ^ m % 256 ^ B) in
       er
-      ∙ ap (λ (l : List ℕ). stored B n (B * n + a) (length l) l qs) (front (back z 0 (k - 0) ys) zs k zl (omega arith))
-      ∙ ap₂ (λ (j : ℕ) (l : List ℕ). stored B n (B * n + a) j l qs) zl ez
-      ∙ ap (stored B n (B * n + a) k (map (λ w. w / 256 ^ B % 256 ^ B) ws)) (eq ∙ ap (λ (l : List ℕ). stored B n a (length l) l ps) (front z ys k yl h) ∙ ap₂ (λ (j : ℕ) (l : List ℕ). stored B n a j l ps) yl ey)
-      ∙ stored_halves B n a k ws ps
+      ∙ ap₂ (λ (j : ℕ) (l : List ℕ). stored B n (m * n + a) j l qs) yl (ey ∙ sym (map_map (λ w. w / 256 ^ m % 256 ^ B) v ws))
+      ∙ ap (stored B n (m * n + a) k (map (λ w. w / 256 ^ m % 256 ^ B) (map v ws))) (eq ∙ ap₂ (λ (j : ℕ) (l : List ℕ). stored B n a j l ps) xl (ex ∙ sym (map_map (λ w. w / 1 % 256 ^ B) v ws)))
+      ∙ ap (λ (j : ℕ). stored B n (j * n + a) k (map (λ w. w / 256 ^ j % 256 ^ B) (map v ws)) (stored B n a k (map (λ w. w / 1 % 256 ^ B) (map v ws)) ps)) em
+      ∙ stored_halves B n a k (map v ws) ps
 
-  pub fetched_block : (y z : List ℕ) → k ≤ length y → k ≤ length z → Room (B + B) n a k (length ps) → {us vs : List ℕ}
-      → us ≡ fetched B n a (length (take (k - 0) (drop 0 y))) ps → vs ≡ fetched B n (B * n + a) (length (take (k - 0) (drop 0 z))) ps
-      → zip_with (λ low high. low + 256 ^ B * high) (take (k - 0) (drop 0 (back y 0 (k - 0) us))) (take (k - 0) (drop 0 (back z 0 (k - 0) vs))) ≡ fetched (B + B) n a k ps
-  fetched_block y z h l r {us} {vs} eu ev =
-      let m : (B + B) * n ≡ B * n + B * n = add-mul B B n in
-      let ul : us ≡ fetched B n a k ps = eu ∙ ap (λ (j : ℕ). fetched B n a j ps) (front_long y k h) in
-      let vl : vs ≡ fetched B n (B * n + a) k ps = ev ∙ ap (λ (j : ℕ). fetched B n (B * n + a) j ps) (front_long z k l) in
-      ap₂ (λ (s t : List ℕ). zip_with (λ low high. low + 256 ^ B * high) s t)
-      (front y us k (ap length ul ∙ fetched_length B n a k ps (omega arith)) h ∙ ul)
-      (front z vs k (ap length vl ∙ fetched_length B n (B * n + a) k ps (omega arith)) l ∙ vl)
+  -- read: the low halves xs and the high ones ys
+  pub fetched_block : (k : ℕ) (xs ys : List H) → k ≡ length xs → k ≡ length ys → Room (B + B) n a k (length ps) → (us vs : List H) → map u us ≡ fetched B n a (length xs) ps
+      → map u vs ≡ fetched B n (m * n + a) (length ys) ps → zip_with (λ l h. u l + 256 ^ B * u h) us vs ≡ fetched (B + B) n a k ps
+  fetched_block k xs ys xl yl r us vs eu ev =
+      zip_maps (λ l h. l + 256 ^ B * h) u us vs
+      ∙ ap₂ (λ (s t : List ℕ). zip_with (λ low high. low + 256 ^ B * high) s t) (eu ∙ ap (λ (j : ℕ). fetched B n a j ps) (sym xl)) (ev ∙ ap₂ (λ (i j : ℕ). fetched B n (i * n + a) j ps) em (sym yl))
       ∙ sym (fetched_add B B n a k ps r)

@@ -3,181 +3,208 @@
 // calls open to users are those of `planes`.
 #![tactic(auto)]
 
-ghost use Rattle.std.specs.Prelude.{◌≡◌, ◌≤◌, length};
+ghost use Rattle.std.specs.Prelude.{◌≡◌, ◌+◌, ◌≤◌, ◌<◌, length};
+ghost use mathlib.Core.List.{map};
+ghost use native.Mathlib.Nat.{zero-lt-suc};
 ghost use Rattle.array_planes.specs.Places.{stored, fetched, Room};
 
-// Writes pairs of bytes to two planes.
-fn write_pairs(pairs: &[u16], planes: &mut [u8], n: usize, at: usize)
-    requires { Room 2 n at (length pairs.now) (length planes.old) }
-    ensures { planes.new ≡ stored 2 n at (length pairs.now) pairs.now planes.old }
-{
-    let to = at + pairs.len();
-    array_halves::cut_bytes(pairs, 0, &mut planes[at..to]);
-    array_halves::cut_bytes(pairs, 8, &mut planes[n + at..n + to]);
+use array_halves::{Halves, Number};
+
+// As many readings go by halves at once: they stay in the nearest cache.
+const BLOCK: usize = 512;
+
+// A number whose bytes stand in planes. A block is written and read by its halves, and they by theirs, in lent room: with room of its own each level would be cleared for each block.
+trait Planes: Number {
+    // Room for the halves of a block that is written, and for those of one that is read.
+    type WriteRoom;
+
+    type ReadRoom;
+
+    // Writes a block to its planes.
+    fn write(block: &[Self], planes: &mut [u8], n: usize, at: usize, room: &mut Self::WriteRoom)
+        requires block { (length block.now ≤ BLOCK) × (length block.now ≤ n) }
+        requires room { Room Self.BYTES n at (length block.now) (length planes.old) }
+        ensures { planes.new ≡ stored Self.BYTES n at (length block.now) (map Self.value block.now) planes.old };
+
+    // Reads a block from its planes.
+    fn read(planes: &[u8], n: usize, at: usize, block: &mut [Self], room: &mut Self::ReadRoom)
+        requires block { length block.old ≤ BLOCK }
+        requires room { Room Self.BYTES n at (length block.old) (length planes.now) }
+        ensures { map Self.value block.new ≡ fetched Self.BYTES n at (length block.old) planes.now };
+
+    // There is a plane.
+    ghost has_bytes: { 0 < Self.BYTES };
 }
 
-// Reads pairs of bytes from two planes.
-fn read_pairs(planes: &[u8], n: usize, at: usize, pairs: &mut [u16])
-    requires { Room 2 n at (length pairs.old) (length planes.now) }
-    ensures { pairs.new ≡ fetched 2 n at (length pairs.old) planes.now }
-{
-    let to = at + pairs.len();
-    array_halves::join_bytes(&planes[at..to], &planes[n + at..n + to], pairs);
+// A pair's halves are bytes: they need no room.
+impl Planes for u16 {
+    type WriteRoom = ();
+
+    type ReadRoom = ();
+
+    ghost has_bytes = { zero-lt-suc 1 };
+
+    fn write(block: &[u16], planes: &mut [u8], n: usize, at: usize, _room: &mut ()) {
+        let to = at + block.len();
+        array_halves::cut(block, 0, &mut planes[at..to]);
+        array_halves::cut(block, 1, &mut planes[n + at..n + to]);
+    }
+
+    fn read(planes: &[u8], n: usize, at: usize, block: &mut [u16], _room: &mut ()) {
+        let to = at + block.len();
+        array_halves::join(&planes[at..to], &planes[n + at..n + to], block);
+    }
 }
 
-// ---- a block, as long as there is room for its halves
+impl Planes for u32 {
+    type WriteRoom = [u16; BLOCK];
 
-// Writes a block of singles to 4 planes: the low halves, then the high ones. They stand in lent room in between.
-fn write_single_block(readings: &[u32], planes: &mut [u8], n: usize, at: usize, halves: &mut [u16])
-    requires { (length readings.now ≤ length halves.old) × Room 4 n at (length readings.now) (length planes.old) }
-    ensures { planes.new ≡ stored 4 n at (length readings.now) readings.now planes.old }
-{
-    let k = readings.len();
-    array_halves::cut_pairs(readings, 0, &mut halves[0..k]);
-    write_pairs(&halves[0..k], planes, n, at);
-    array_halves::cut_pairs(readings, 16, &mut halves[0..k]);
-    write_pairs(&halves[0..k], planes, n, 2 * n + at);
+    type ReadRoom = ([u16; BLOCK], [u16; BLOCK]);
+
+    ghost has_bytes = { zero-lt-suc 3 };
+
+    fn write(block: &[u32], planes: &mut [u8], n: usize, at: usize, room: &mut Self::WriteRoom) {
+        write_halves(block, planes, n, at, room, &mut ());
+    }
+
+    fn read(planes: &[u8], n: usize, at: usize, block: &mut [u32], room: &mut Self::ReadRoom) {
+        read_halves(planes, n, at, block, &mut room.0, &mut room.1, &mut ());
+    }
 }
 
-// Reads a block of singles from 4 planes. Their halves stand in lent room in between.
-fn read_single_block(
-    planes: &[u8],
-    n: usize,
-    at: usize,
-    low: &mut [u16],
-    high: &mut [u16],
-    readings: &mut [u32],
-)
-    requires { ((length readings.old ≤ length low.old) × (length readings.old ≤ length high.old)) × Room 4 n at (length readings.old) (length planes.now) }
-    ensures { readings.new ≡ fetched 4 n at (length readings.old) planes.now }
-{
-    let k = readings.len();
-    read_pairs(planes, n, at, &mut low[0..k]);
-    read_pairs(planes, n, 2 * n + at, &mut high[0..k]);
-    array_halves::join_pairs(&low[0..k], &high[0..k], readings);
+impl Planes for u64 {
+    type WriteRoom = ([u32; BLOCK], <u32 as Planes>::WriteRoom);
+
+    type ReadRoom = ([u32; BLOCK], [u32; BLOCK], <u32 as Planes>::ReadRoom);
+
+    ghost has_bytes = { zero-lt-suc 7 };
+
+    fn write(block: &[u64], planes: &mut [u8], n: usize, at: usize, room: &mut Self::WriteRoom) {
+        write_halves(block, planes, n, at, &mut room.0, &mut room.1);
+    }
+
+    fn read(planes: &[u8], n: usize, at: usize, block: &mut [u64], room: &mut Self::ReadRoom) {
+        read_halves(planes, n, at, block, &mut room.0, &mut room.1, &mut room.2);
+    }
 }
 
-// Writes a block of doubles to 8 planes: the low halves, then the high ones. They stand in lent room in between.
-fn write_double_block(
-    readings: &[u64],
+// ---- a block by its halves
+
+// Writes a block: the planes of the low halves, then those of the high ones.
+fn write_halves<Half: Planes, Whole: Halves<Half>>(
+    block: &[Whole],
     planes: &mut [u8],
     n: usize,
     at: usize,
-    halves: &mut [u32],
-    quarters: &mut [u16],
+    halves: &mut [Half],
+    room: &mut Half::WriteRoom,
 )
-    requires { ((length readings.now ≤ length halves.old) × (length readings.now ≤ length quarters.old)) × Room 8 n at (length readings.now) (length planes.old) }
-    ensures { planes.new ≡ stored 8 n at (length readings.now) readings.now planes.old }
+    requires block { (length block.now ≤ BLOCK) × (length block.now ≤ n) }
+    requires halves { length halves.old ≡ BLOCK }
+    requires room { Room (Half.BYTES + Half.BYTES) n at (length block.now) (length planes.old) }
+    ensures { planes.new ≡ stored (Half.BYTES + Half.BYTES) n at (length block.now) (map Whole.value block.now) planes.old }
 {
-    let k = readings.len();
-    array_halves::cut_words(readings, 0, &mut halves[0..k]);
-    write_single_block(&halves[0..k], planes, n, at, quarters);
-    array_halves::cut_words(readings, 32, &mut halves[0..k]);
-    write_single_block(&halves[0..k], planes, n, 4 * n + at, quarters);
+    let bytes = Half::BYTES;
+    let halves = &mut halves[..block.len()];
+    array_halves::cut(block, 0, halves);
+    Half::write(halves, planes, n, at, room);
+    array_halves::cut(block, bytes, halves);
+    Half::write(halves, planes, n, bytes * n + at, room);
 }
 
-// Reads a block of doubles from 8 planes. Their halves stand in lent room in between.
-fn read_double_block(
+// Reads a block: the low halves from their planes, then the high ones from theirs.
+fn read_halves<Half: Planes, Whole: Halves<Half>>(
     planes: &[u8],
     n: usize,
     at: usize,
-    low: &mut [u32],
-    high: &mut [u32],
-    lows: &mut [u16],
-    highs: &mut [u16],
-    readings: &mut [u64],
+    block: &mut [Whole],
+    low: &mut [Half],
+    high: &mut [Half],
+    room: &mut Half::ReadRoom,
 )
-    requires { (((length readings.old ≤ length low.old) × (length readings.old ≤ length high.old)) × ((length readings.old ≤ length lows.old) × (length readings.old ≤ length highs.old))) × Room 8 n at (length readings.old) (length planes.now) }
-    ensures { readings.new ≡ fetched 8 n at (length readings.old) planes.now }
+    requires block { length block.old ≤ BLOCK }
+    requires halves { (length low.old ≡ BLOCK) × (length high.old ≡ BLOCK) }
+    requires room { Room (Half.BYTES + Half.BYTES) n at (length block.old) (length planes.now) }
+    ensures { map Whole.value block.new ≡ fetched (Half.BYTES + Half.BYTES) n at (length block.old) planes.now }
 {
-    let k = readings.len();
-    read_single_block(planes, n, at, lows, highs, &mut low[0..k]);
-    read_single_block(planes, n, 4 * n + at, lows, highs, &mut high[0..k]);
-    array_halves::join_words(&low[0..k], &high[0..k], readings);
+    let low = &mut low[..block.len()];
+    let high = &mut high[..block.len()];
+    Half::read(planes, n, at, low, room);
+    Half::read(planes, n, Half::BYTES * n + at, high, room);
+    array_halves::join(low, high, block);
 }
 
-// ---- any number of readings
+// ---- any number of readings, block by block
 
-// Writes singles to 4 planes, block by block.
+fn write_blocks<Reading: Planes>(
+    readings: &[Reading],
+    planes: &mut [u8],
+    n: usize,
+    at: usize,
+    room: &mut Reading::WriteRoom,
+)
+    requires readings { length readings.now ≤ n }
+    requires room { Room Reading.BYTES n at (length readings.now) (length planes.old) }
+    ensures { planes.new ≡ stored Reading.BYTES n at (length readings.now) (map Reading.value readings.now) planes.old }
+{
+    for start in (0..readings.len()).step_by(BLOCK) {
+        let end = start + BLOCK.min(readings.len() - start);
+        Reading::write(&readings[start..end], planes, n, at + start, room);
+    }
+}
+
+fn read_blocks<Reading: Planes>(
+    planes: &[u8],
+    n: usize,
+    at: usize,
+    readings: &mut [Reading],
+    room: &mut Reading::ReadRoom,
+)
+    requires { Room Reading.BYTES n at (length readings.old) (length planes.now) }
+    ensures { map Reading.value readings.new ≡ fetched Reading.BYTES n at (length readings.old) planes.now }
+{
+    for start in (0..readings.len()).step_by(BLOCK) {
+        let end = start + BLOCK.min(readings.len() - start);
+        Reading::read(planes, n, at + start, &mut readings[start..end], room);
+    }
+}
+
+// ---- for the crates above
+
+// Writes singles to 4 planes.
 pub fn write_singles(readings: &[u32], planes: &mut [u8], n: usize, at: usize)
     requires { (length readings.now ≤ n) × Room 4 n at (length readings.now) (length planes.old) }
     ensures { planes.new ≡ stored 4 n at (length readings.now) readings.now planes.old }
 {
-    let mut halves = [0u16; 512];
-    let mut a: usize = 0;
-    while a < readings.len() {
-        let e = a + loops::at_most(readings.len() - a, 512);
-        write_single_block(&readings[a..e], planes, n, at + a, &mut halves[0..512]);
-        a = e;
-    }
+    write_blocks(readings, planes, n, at, &mut [0; BLOCK]);
 }
 
-// Reads singles from 4 planes, block by block.
+// Reads singles from 4 planes.
 pub fn read_singles(planes: &[u8], n: usize, at: usize, readings: &mut [u32])
     requires { Room 4 n at (length readings.old) (length planes.now) }
     ensures { readings.new ≡ fetched 4 n at (length readings.old) planes.now }
 {
-    let mut low = [0u16; 512];
-    let mut high = [0u16; 512];
-    let mut a: usize = 0;
-    while a < readings.len() {
-        let e = a + loops::at_most(readings.len() - a, 512);
-        read_single_block(
-            planes,
-            n,
-            at + a,
-            &mut low[0..512],
-            &mut high[0..512],
-            &mut readings[a..e],
-        );
-        a = e;
-    }
+    read_blocks(planes, n, at, readings, &mut ([0; BLOCK], [0; BLOCK]));
 }
 
-// Writes doubles to 8 planes, block by block.
+// Writes doubles to 8 planes.
 pub fn write_doubles(readings: &[u64], planes: &mut [u8], n: usize, at: usize)
     requires { (length readings.now ≤ n) × Room 8 n at (length readings.now) (length planes.old) }
     ensures { planes.new ≡ stored 8 n at (length readings.now) readings.now planes.old }
 {
-    let mut halves = [0u32; 512];
-    let mut quarters = [0u16; 512];
-    let mut a: usize = 0;
-    while a < readings.len() {
-        let e = a + loops::at_most(readings.len() - a, 512);
-        write_double_block(
-            &readings[a..e],
-            planes,
-            n,
-            at + a,
-            &mut halves[0..512],
-            &mut quarters[0..512],
-        );
-        a = e;
-    }
+    write_blocks(readings, planes, n, at, &mut ([0; BLOCK], [0; BLOCK]));
 }
 
-// Reads doubles from 8 planes, block by block.
+// Reads doubles from 8 planes.
 pub fn read_doubles(planes: &[u8], n: usize, at: usize, readings: &mut [u64])
     requires { Room 8 n at (length readings.old) (length planes.now) }
     ensures { readings.new ≡ fetched 8 n at (length readings.old) planes.now }
 {
-    let mut low = [0u32; 512];
-    let mut high = [0u32; 512];
-    let mut lows = [0u16; 512];
-    let mut highs = [0u16; 512];
-    let mut a: usize = 0;
-    while a < readings.len() {
-        let e = a + loops::at_most(readings.len() - a, 512);
-        read_double_block(
-            planes,
-            n,
-            at + a,
-            &mut low[0..512],
-            &mut high[0..512],
-            &mut lows[0..512],
-            &mut highs[0..512],
-            &mut readings[a..e],
-        );
-        a = e;
-    }
+    read_blocks(
+        planes,
+        n,
+        at,
+        readings,
+        &mut ([0; BLOCK], [0; BLOCK], ([0; BLOCK], [0; BLOCK])),
+    );
 }

@@ -10,7 +10,7 @@ ghost use Rattle.reading.specs.Left.{Settled, settled_by, settled_tail};
 ghost use Rattle.reading.specs.Tails.{TailOf};
 ghost use Rattle.reading.specs.Words.{settled_at, constants_at};
 ghost use Rattle.loops.specs.Tallies.{sums_at, totals_of};
-ghost use Rattle.loops.specs.Methods.{Fitting, add_by, keep_of, Suits, Filling, settled_with, next_with};
+ghost use Rattle.loops.specs.Methods.{Fitting, add_at, add_by, keep_of, Suits, Filling, settled_with, next_with};
 ghost use Rattle.arrays.specs.Outcomes.{CountsOnce, Leaves, EachOnce, AllTrimmed, AllTrimmedFrom};
 ghost use Rattle.loops.specs.Walk.{state_at};
 ghost use Rattle.arrays.specs.Subnormal.{NoSubnormal};
@@ -20,6 +20,9 @@ use loops::{Sums, Totals};
 use method::Method;
 use reading::{Tail, Trimmed};
 use word::Word;
+
+// The length of a part: its counters may be as narrow as a single.
+const PART: usize = 65536;
 
 // Trims each reading of a part, up to 65,536, and adds up what they count for.
 pub fn each<W: Word, F: Fn(W) -> Trimmed<W>>(readings: &mut [W], trim: F) -> Sums<W>
@@ -125,7 +128,10 @@ impl Digits for u32 {
         }
         let limits = digit_tables::limits(&powers::POWERS);
         let masks = digit_tables::masks(n);
-        each(readings, |x: u32| single::field_single(&limits, &masks, x, n, mark))
+        each(
+            readings,
+            |x: u32| single::field_single(&limits, &masks, x, n, mark),
+        )
     }
 }
 
@@ -192,12 +198,11 @@ fn all<W: Digits>(readings: &mut [W], job: Job<W>, mark: W) -> Totals
     ensures { AllTrimmed W.value (settled_by W.FRACTION W.EXPONENT (method_by (number_of job.method) job.n) (W.value mark) 0) readings.old readings.new (totals_of result) }
 {
     let mut totals = Totals::new();
-    let mut a: usize = 0;
-    while a < readings.len() {
-        let e = a + loops::at_most(readings.len() - a, 65536);
-        let sums = plain(&mut readings[a..e], job, mark);
+    for part in 0..readings.len().div_ceil(PART) {
+        let start = part * PART;
+        let end = start + PART.min(readings.len() - start);
+        let sums = plain(&mut readings[start..end], job, mark);
         totals = totals.join(sums);
-        a = e;
     }
     totals
 }
@@ -227,6 +232,17 @@ pub fn by_method<W: Digits>(readings: &mut [W], method: Method, n: u32, mark: W)
 
 // ---- the loader's one reading
 
+// One reading by method 4. With no tail it stays.
+fn rounded_one<W: Word>(x: W, tail: Tail<W>, mark: W) -> Trimmed<W>
+    requires { TailOf W.FRACTION (constants_at W.value tail) }
+    ensures { settled_at W.value result ≡ settled_by W.FRACTION W.EXPONENT (round (W.FRACTION - tail.bits)) (W.value mark) 0 (W.value x) }
+{
+    if tail.bits > 0 {
+        return x.rounded(tail, mark);
+    }
+    x.with_tail(tail, W::zero(), mark)
+}
+
 // One reading by any method but grooming.
 fn plain_one<W: Word>(x: W, job: Job<W>, mark: W) -> Trimmed<W>
     requires { (Suits W.FRACTION W.DIGITS (number_of job.method) job.n (constants_at W.value job.tail)) × (number_of job.method ≢ 2) }
@@ -235,9 +251,20 @@ fn plain_one<W: Word>(x: W, job: Job<W>, mark: W) -> Trimmed<W>
     match job.method {
         Method::Digits => x.with_digits(&powers::POWERS, job.n, mark),
         Method::Absolute => x.stepped_by_words(job.n, mark),
-        Method::Round if job.tail.bits > 0 => x.rounded(job.tail, mark),
+        Method::Round => rounded_one(x, job.tail, mark),
         _ => x.with_tail(job.tail, add_for(job.method, job.tail), mark),
     }
+}
+
+// One reading groomed: an even turn shaves, an odd one sets.
+fn groomed_one<W: Word>(x: W, tail: Tail<W>, mark: W, turn: u64) -> Trimmed<W>
+    requires { TailOf W.FRACTION (constants_at W.value tail) }
+    ensures { settled_at W.value result ≡ settled_tail W.FRACTION W.EXPONENT tail.bits (add_at 0 (W.value tail.ones) turn) (W.value mark) (W.value x) }
+{
+    let none = W::zero();
+    let ones = tail.ones;
+    let add = if turn % 2 == 0 { none } else { ones };
+    x.with_tail(tail, add, mark)
 }
 
 // One reading by a method with a setting that is in its range, at a turn. Only the turn's parity matters.
@@ -246,9 +273,8 @@ pub fn one_by_method<W: Word>(x: W, method: Method, n: u32, mark: W, turn: u64) 
     ensures { settled_at W.value result ≡ settled_by W.FRACTION W.EXPONENT (method_by (number_of method) n) (W.value mark) turn (W.value x) }
 {
     let job = job_of(method, n);
-    if job.method != Method::Groom {
-        return plain_one(x, job, mark);
+    match method {
+        Method::Groom => groomed_one(x, job.tail, mark, turn),
+        _ => plain_one(x, job, mark),
     }
-    let add = if turn % 2 == 0 { W::zero() } else { job.tail.ones };
-    x.with_tail(job.tail, add, mark)
 }

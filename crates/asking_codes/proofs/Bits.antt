@@ -1,17 +1,15 @@
--- The bits of codes: the loop that gathers them. 2^w - 1 has every bit below w, so that it bounds two numbers exactly where it bounds the bits of both.
+-- The bits of codes. 2^w - 1 has every bit below w, so that it bounds two numbers exactly where it bounds the bits of both.
 use mathlib.Core.Path.{◌≡◌, refl, sym, ap, ◌∙◌}
 use mathlib.Core.Bool.{Bool, true, false, ◌&&◌}
-use mathlib.Core.List.{List}
-use Prim.Native.Nat.{ℕ, suc, ◌+◌, ◌-◌, ◌^◌, ◌≤◌, ◌<◌, zero-le}
-use native.Mathlib.Numerals.{add-one}
+use mathlib.Core.List.{List, [], ◌∷◌}
+use Prim.Native.Nat.{ℕ, ◌-◌, ◌^◌, ◌≤◌, zero-le}
 use native.Mathlib.Decide.{dec_le}
 use native.Mathlib.Omega.{arith}
 use borrow.Author.Tests.{le-leb, lt-leb}
 use lib.Bits.{bit_or, and_le_l, and_le_r, or_lt, or_add_and}
 use lib.Dec.{leb}
-use lib.ListN.{length, get_or, drop, drop_of_length-le}
 use lib.Pow.{pow_pos}
-use lib.Seq.{drop-cons}
+use Rattle.std.specs.List.{fold}
 use Rattle.meaning.specs.Layers.{missing_code}
 use Rattle.meaning.specs.Questions.{all, code_in_range}
 use Rattle.asking_codes.specs.Codes.{BitsOf}
@@ -44,23 +42,13 @@ and_true : (a : Bool) → a && true ≡ a
 and_true true = refl
 and_true false = refl
 
--- the bits before place i, and the codes that are left
-abbrev pub Left : List ℕ → ℕ → ℕ → Type 0
-Left cs bits i = (w : ℕ) → leb bits (missing_code w) && all (code_in_range w) (drop i cs) ≡ all (code_in_range w) cs
-
-pub start : (cs : List ℕ) → Left cs 0 0
-start cs w = rw (le-leb 0 (missing_code w) zero-le) refl
-
-pub turn : (cs : List ℕ) (bits i new : ℕ) → i < length cs → new ≡ bit_or bits (get_or cs i 0) → Left cs bits i → Left cs new (i + 1)
+-- the bits of some codes and of those after them, gathered in order
+gathered : (a : ℕ) (cs : List ℕ) (w : ℕ) → leb (fold bit_or a cs) (missing_code w) ≡ leb a (missing_code w) && all (code_in_range w) cs
 unfolding all
-turn cs bits i new h e inv w =
-    let c = get_or cs i 0 in
-    rw (add-one, e, both bits (get_or cs i 0) w)
-    (and_three (leb bits (missing_code w)) (leb c (missing_code w)) (all (code_in_range w) (drop (suc i) cs))
-    ∙ sym (ap (λ (xs : List ℕ). leb bits (missing_code w) && all (code_in_range w) xs) (drop-cons cs i 0 h)) ∙ inv w)
+gathered a [] w = sym (and_true (leb a (missing_code w)))
+gathered a (c ∷ cs) w =
+    gathered (bit_or a c) cs w ∙ ap (λ (b : Bool). b && all (code_in_range w) cs) (both a c w)
+    ∙ and_three (leb a (missing_code w)) (leb c (missing_code w)) (all (code_in_range w) cs)
 
-pub end : (cs : List ℕ) (bits i : ℕ) → length cs ≤ i → Left cs bits i → BitsOf bits cs
-unfolding all
-end cs bits i h inv w =
-    sym (and_true (leb bits (missing_code w)))
-    ∙ sym (ap (λ (xs : List ℕ). leb bits (missing_code w) && all (code_in_range w) xs) (drop_of_length-le cs h)) ∙ inv w
+pub bits_gathered : (cs : List ℕ) → BitsOf (fold bit_or 0 cs) cs
+bits_gathered cs w = gathered 0 cs w ∙ rw (le-leb 0 (missing_code w) zero-le) refl

@@ -1,76 +1,90 @@
 -- Question 12 layer by layer: while the loop runs, the whole turns on the layers that are left.
-use mathlib.Core.Path.{◌≡◌, sym, ap, ◌∙◌, subst}
+use mathlib.Core.Path.{◌≡◌, sym, ap, ap₂, ◌∙◌, subst}
+use mathlib.Core.Logic.{◌⊎◌, inl, inr}
 use mathlib.Core.Bool.{Bool, true, false, ◌&&◌}
-use mathlib.Core.List.{List, zip_with}
-use Prim.Native.Nat.{ℕ, suc, ◌+◌, ◌-◌, ◌*◌, ◌/◌, ◌≤◌, ◌<◌}
-use native.Mathlib.Nat.{zero-add, sub-zero, div-add-mod'}
+use mathlib.Core.List.{List, [], ◌∷◌, ◌++◌, zip_with}
+use Prim.Native.Nat.{ℕ, suc, min, ◌+◌, ◌*◌, ◌/◌, ◌≤◌}
+use native.Mathlib.Nat.{div-add-mod'}
 use native.Mathlib.Omega.{arith}
 use lib.Dec.{leb}
-use lib.ListN.{length, get_or, take, drop, drop_of_length-le}
+use lib.ListN.{length, length-append, drop_of_length-le}
+use lib.Seq.{take_all}
+use Rattle.std.proofs.lemmas.List.{take-append-le, drop-append-le}
+use Rattle.std.proofs.lemmas.Nat.{div-mul-add}
 use Rattle.meaning.specs.Layers.{missing_code, runs, layers}
 use Rattle.meaning.specs.Questions.{all, code_in_range}
-use Rattle.meaning.proofs.Layering.{run_left, zip_next}
 use Rattle.asking_codes.specs.Codes.{BitsOf, InLayers}
 
 -- does a layer of width w hold no code above its missing one?
 abbrev known : ℕ → List ℕ → Bool
 known w part = all (code_in_range w) part
 
-abbrev all_good : List Bool → Bool
-all_good xs = all (λ good. good) xs
+abbrev pub all_known : ℕ → List ℕ → List ℕ → Bool
+all_known L ws cs = all (λ good. good) (zip_with (λ w part. all (code_in_range w) part) ws (layers L cs))
 
-module _ (cs : List ℕ) (L : ℕ) (ws : List ℕ) where
-  abbrev whole : Bool
-  whole = all (λ good. good) (zip_with (λ w part. all (code_in_range w) part) ws (layers L cs))
+-- the widths and the codes that are left, which are cut by `size`
+pub record Turn (L : ℕ) (ws cs : List ℕ) (size : ℕ) (whole : Bool) : Type 0 where
+  pub by : size ≡ L
+  pub fit : InLayers L ws cs
+  pub rest : all_known L ws cs ≡ whole
 
-  -- i layers are known, up to a
-  pub record Turn (a i : ℕ) : Type 0 where
-    pub fit : InLayers L ws cs
-    pub within : i ≤ length ws
-    pub left : a + (length ws - i) * L ≡ length cs
-    pub rest : all_good (zip_with known (drop i ws) (runs L (length ws - i) (drop a cs))) ≡ whole
+-- one more layer
+module _ (L w size : ℕ) (us ws ds part cs : List ℕ) (whole : Bool) (before : Turn L us ds size whole) (width : us ≡ w ∷ ws) (codes : ds ≡ part ++ cs) (long : length part ≡ min size (length ds)) where
+  turn : Turn L (w ∷ ws) (part ++ cs) size whole
+  turn = subst (λ (x : List ℕ). Turn L x (part ++ cs) size whole) width (subst (λ (x : List ℕ). Turn L us x size whole) codes before)
 
-  pub start : InLayers L ws cs → Turn 0 0
-  unfolding layers
-  start fit =
-      let n : length ws - 0 ≡ length cs / L = sub-zero (length ws) ∙ fit.one_width in
-      record {
-        fit = fit;
-        within = omega arith;
-        left = zero-add _ ∙ ap (λ (k : ℕ). k * L) n ∙ omega (arith, div-add-mod' (length cs) L, fit.whole);
-        rest = ap (λ (k : ℕ). all_good (zip_with known ws (runs L k cs))) n;
-      }
+  all_codes : length ws * L + L ≡ length (part ++ cs)
+  all_codes = omega (arith, div-add-mod' (length (part ++ cs)) L, turn.fit.whole, ap (λ (n : ℕ). n * L) turn.fit.one_width)
 
-  module _ (a i : ℕ) (inv : Turn a i) where
-    pub room : i < length ws → a + L ≤ length cs
-    room h = (run_left L a i (length ws) (length cs) h inv.left).1
+  part_long : length part ≡ L
+  part_long = omega (arith, long, turn.by, all_codes, ap length codes)
 
-    module _ (h : i < length ws) (m bits : ℕ) (me : m ≡ missing_code (get_or ws i 0)) (be : BitsOf bits (take (a + L - a) (drop a cs))) where
-      -- this layer, by the bits of its codes
-      layer : leb bits m ≡ known (get_or ws i 0) (take L (drop a cs))
-      layer =
-          let k : a + L - a ≡ L = omega arith in
-          rw me (be (get_or ws i 0) ∙ ap (λ (j : ℕ). known (get_or ws i 0) (take j (drop a cs))) k)
+  rest_long : length cs ≡ length ws * L + 0
+  rest_long = omega (arith, all_codes, part_long, length-append part cs)
 
-      split : known (get_or ws i 0) (take L (drop a cs)) && all_good (zip_with known (drop (i + 1) ws) (runs L (length ws - (i + 1)) (drop (a + L) cs))) ≡ whole
-      unfolding all
-      split =
-          let e : length ws - i ≡ suc (length ws - (i + 1)) = omega arith in
-          sym (ap all_good (zip_next L 0 known ws cs a i (length ws - (i + 1)) h))
-          ∙ subst (λ (k : ℕ). all_good (zip_with known (drop i ws) (runs L k (drop a cs))) ≡ whole) e inv.rest
+  as_many : length cs / L ≡ length ws
+  as_many = ap (λ (n : ℕ). n / L) rest_long ∙ div-mul-add (length ws) L 0 turn.fit.some
 
-      pub fails : leb bits m ≡ false → false ≡ whole
-      fails f = ap (λ (b : Bool). b && all_good (zip_with known (drop (i + 1) ws) (runs L (length ws - (i + 1)) (drop (a + L) cs)))) (sym (sym layer ∙ f)) ∙ split
+  cut : layers L (part ++ cs) ≡ part ∷ layers L cs
+  unfolding layers runs
+  cut =
+      let h : L ≤ length part = omega (arith, part_long) in
+      let k : length part ≤ L = omega (arith, part_long) in
+      ap (λ (n : ℕ). runs L n (part ++ cs)) (sym turn.fit.one_width)
+      ∙ ap₂ (λ (p : List ℕ) (q : List ℕ). p ∷ runs L (length ws) q)
+      (take-append-le L part cs h ∙ take_all L part k) (drop-append-le L part cs h ∙ ap (λ (q : List ℕ). q ++ cs) (drop_of_length-le part k))
+      ∙ ap (λ (n : ℕ). part ∷ runs L n cs) (sym as_many)
 
-      pub passes : leb bits m ≡ true → Turn (a + L) (i + 1)
-      passes t =
-          record {
-            fit = inv.fit;
-            within = omega arith;
-            left = (run_left L a i (length ws) (length cs) h inv.left).0;
-            rest = ap (λ (b : Bool). b && all_good (zip_with known (drop (i + 1) ws) (runs L (length ws - (i + 1)) (drop (a + L) cs)))) (sym (sym layer ∙ t)) ∙ split;
-          }
+  pub few_bits : w ≤ 16
+  few_bits = turn.fit.few_bits 0 (omega arith)
 
-    pub end : length ws ≤ i → true ≡ whole
+  module _ (m bits : ℕ) (me : m ≡ missing_code w) (be : BitsOf bits part) where
+    -- this layer, by the bits of its codes
+    split : leb bits m && all_known L ws cs ≡ whole
     unfolding all zip_with
-    end h = sym (ap (λ (xs : List ℕ). all_good (zip_with known xs (runs L (length ws - i) (drop a cs)))) (drop_of_length-le ws h)) ∙ inv.rest
+    split = ap (λ (b : Bool). b && all_known L ws cs) (ap (leb bits) me ∙ be w) ∙ sym (ap (λ l. all (λ good. good) (zip_with known (w ∷ ws) l)) cut) ∙ turn.rest
+
+    pub fails : leb bits m ≡ false → false ≡ whole
+    fails f = sym (ap (λ (b : Bool). b && all_known L ws cs) f) ∙ split
+
+    pub passes : leb bits m ≡ true → (after : ℕ) → after ≡ size → Turn L ws cs after whole
+    passes t after e =
+        record {
+          by = e ∙ turn.by;
+          fit =
+              record {
+                some = turn.fit.some;
+                whole = omega (arith, div-add-mod' (length cs) L, ap (λ (n : ℕ). n * L) as_many, rest_long);
+                one_width = sym as_many;
+                few_bits = λ i h. turn.fit.few_bits (suc i) (omega arith);
+              };
+          rest = sym (ap (λ (b : Bool). b && all_known L ws cs) t) ∙ split;
+        }
+
+-- no layer is left
+pub end : (L : ℕ) (ws cs : List ℕ) (size : ℕ) (whole : Bool) → Turn L ws cs size whole → (length ws ≡ 0) ⊎ (length cs ≡ 0) → true ≡ whole
+unfolding all zip_with
+end L [] cs size whole t h = t.rest
+end L (w ∷ ws) cs size whole t (inl h) = absurd (omega arith)
+end L (w ∷ ws) cs size whole t (inr h) =
+    absurd (let e : length cs ≡ 0 * L + 0 = omega (arith, h) in omega (arith, ap (λ (n : ℕ). n / L) e ∙ div-mul-add 0 L 0 t.fit.some, t.fit.one_width))

@@ -11,13 +11,7 @@ ghost use Rattle.asking_codes.specs.Codes.{BitsOf, InLayers};
 pub fn bits_of(codes: &[u16]) -> u16
     ensures { BitsOf result codes.now }
 {
-    let mut bits: u16 = 0;
-    let mut i: usize = 0;
-    while i < codes.len() {
-        bits = bits | codes[i];
-        i += 1;
-    }
-    bits
+    codes.iter().fold(0, |bits, code| bits | *code)
 }
 
 // Question 12, layer by layer; a layer has `run` codes, and the widths are 2 to 16.
@@ -25,17 +19,10 @@ pub fn all_known(codes: &[u16], run: usize, widths: &[u32]) -> bool
     requires { InLayers run widths.now codes.now }
     ensures { result ≡ all (λ good. good) (zip_with (λ w part. all (code_in_range w) part) widths.now (layers run codes.now)) }
 {
-    let mut from: usize = 0;
-    let mut i: usize = 0;
-    while i < widths.len() {
-        let to = from + run;
-        let missing = layer_width::missing_of(widths[i]);
-        let bits = bits_of(&codes[from..to]);
-        if missing < bits {
+    for (width, part) in widths.iter().zip(codes.chunks(run)) {
+        if layer_width::missing_of(*width) < bits_of(part) {
             return false;
         }
-        from = to;
-        i += 1;
     }
     true
 }

@@ -2,6 +2,7 @@
 use Prim.Native.Nat.{ℕ, ◌/◌, ◌%◌, ◌≤◌}
 use native.Mathlib.Omega.{arith}
 use mathlib.Core.Path.{◌≡◌, refl}
+use mathlib.Core.Logic.{◌≢◌}
 use mathlib.Core.Bool.{Bool, true, false, cond, ◌&&◌}
 use mathlib.Core.List.{List, [], ◌∷◌}
 use lib.Dec.{leb, eqb}
@@ -9,7 +10,26 @@ use lib.ListN.{length}
 use borrow.Author.Tests.{leb-true, eqb-true}
 use Rattle.meaning.specs.Questions.{Outcome, refused, ask, all, length_in_range, whole, width_in_range, layer_questions}
 use Rattle.meaning.proofs.Accepted.{and_first, and_second}
+use Rattle.refusal.specs.declared.Refusal.{Refusal}
+use Rattle.refusal.specs.declared.Refusal.TheVariants as variants
+use Rattle.refusal.specs.Refusals.{number_of}
 use Rattle.asking_layers.specs.LayerAsked.{layer_refusal}
+
+-- no refusal has the number 0
+pub number_not_0 : (r : Refusal) → number_of r ≢ 0
+number_not_0 variants.MethodUnknown e = absurd (omega arith)
+number_not_0 variants.SettingOutOfRange e = absurd (omega arith)
+number_not_0 variants.LengthOutOfRange e = absurd (omega arith)
+number_not_0 variants.NoWholeLayers e = absurd (omega arith)
+number_not_0 variants.ArrayOfWrongLength e = absurd (omega arith)
+number_not_0 variants.ReadingNotFinite e = absurd (omega arith)
+number_not_0 variants.ReferenceOrExponentOutOfRange e = absurd (omega arith)
+number_not_0 variants.MarkNotNan e = absurd (omega arith)
+number_not_0 variants.TextNotOfTheForm e = absurd (omega arith)
+number_not_0 variants.LengthsDiffer e = absurd (omega arith)
+number_not_0 variants.WidthOutOfRange e = absurd (omega arith)
+number_not_0 variants.CodeOutOfRange e = absurd (omega arith)
+number_not_0 variants.PlanesOfWrongLength e = absurd (omega arith)
 
 -- the lengths and widths of an accepted call
 pub record Lengths (L n : ℕ) (beside : Bool) (references exponents : ℕ) (widths : List ℕ) : Type 0 where

@@ -1,2 +1,2 @@
-pub mod Scan
+pub mod Walk
 pub mod Calls

@@ -8,33 +8,47 @@ ghost use Rattle.meaning.specs.Calls.{trim_singles, trim_doubles, loader, unpack
 ghost use Rattle.meaning.specs.Comparing.{first_beyond_singles, first_beyond_doubles};
 ghost use Rattle.meaning.specs.Totals.{totals};
 ghost use Rattle.meaning.specs.Planes.{to_planes, from_planes, trim_planes_singles, trim_planes_doubles};
-ghost use Rattle.trim.specs.Answers.{answer_of};
+ghost use Rattle.refusal.specs.Refusals.{outcome_of};
+ghost use Rattle.trim.specs.Answers as trim;
 ghost use Rattle.beyond.specs.Answers as beyond;
 ghost use Rattle.packing.specs.Answers as packing;
 ghost use Rattle.unpacking.specs.Answers as unpacking;
-ghost use Rattle.planes.specs.Answers as planes;
 ghost use Rattle.totals.specs.Answers as totalled;
 ghost use Rattle.capi.specs.ForC.{number_for_c, counts_for_c, found_for_c, totals_for_c};
 
-// An answer in C's form.
-fn hand_over(answer: trim::Answer, counts: &mut [u64; 6]) -> u32
-    ensures number { result ≡ number_for_c (answer_of answer) }
-    ensures counted { counts.new ≡ counts_for_c (answer_of answer) counts.old }
+use beyond::Compared;
+use refusal::Refusal;
+use totals::Total;
+use trim::Counts;
+
+// What a C caller gets of an answer: 0, or the refusal's number.
+#[tactic(auto, unfolding(crate::specs::ForC::number_for_c))]
+fn number_of<T: Drop>(answer: Result<T, Refusal>) -> u32
+    ensures { result ≡ number_for_c (outcome_of (λ value. value) answer) }
 {
     match answer {
-        trim::Answer::Counts {
-            changed,
-            spared,
-            clipped,
-            missing,
-            risen,
-            fallen,
-        } => {
-            *counts = [changed, spared, clipped, missing, risen, fallen];
-            0
-        }
-        trim::Answer::Refused(n) => n,
+        Ok(_) => 0,
+        Err(refusal) => refusal.number(),
     }
+}
+
+// A trim's answer in C's form.
+#[tactic(auto, unfolding(crate::specs::ForC::number_for_c, crate::specs::ForC::counts_for_c))]
+fn hand_over(answer: Result<Counts, Refusal>, out: &mut [u64; 6]) -> u32
+    ensures number { result ≡ number_for_c (outcome_of trim.counts answer) }
+    ensures counted { out.new ≡ counts_for_c (outcome_of trim.counts answer) out.old }
+{
+    if let Ok(counts) = answer {
+        *out = [
+            counts.changed,
+            counts.spared,
+            counts.clipped,
+            counts.missing,
+            counts.risen,
+            counts.fallen,
+        ];
+    }
+    number_of(answer)
 }
 
 // Trims an array of singles in place. `counts` gets the places changed, spared, clipped, missing, risen and fallen.
@@ -87,20 +101,26 @@ pub extern "C" fn megharutti_trim_single(
 }
 
 // A comparison's answer in C's form.
-fn hand_place(answer: beyond::Compared, found: &mut [u64; 3]) -> u32
+#[tactic(auto, unfolding(crate::specs::ForC::number_for_c, crate::specs::ForC::place_for_c, crate::specs::ForC::found_for_c))]
+fn hand_place(answer: Result<Compared, Refusal>, out: &mut [u64; 3]) -> u32
     ensures number { result ≡ number_for_c (beyond.answer_of answer) }
-    ensures found { found.new ≡ found_for_c (beyond.answer_of answer) found.old }
+    ensures found { out.new ≡ found_for_c (beyond.answer_of answer) out.old }
 {
     match answer {
-        beyond::Compared::Beyond { place, read } => {
-            *found = [1, place as u64, read as u64];
+        Ok(
+            Compared {
+                place: Some(place),
+                read,
+            },
+        ) => {
+            *out = [1, place as u64, read as u64];
             0
         }
-        beyond::Compared::None { read } => {
-            *found = [0, 0, read as u64];
+        Ok(Compared { place: None, read }) => {
+            *out = [0, 0, read as u64];
             0
         }
-        beyond::Compared::Refused(n) => n,
+        Err(refusal) => refusal.number(),
     }
 }
 
@@ -137,15 +157,7 @@ pub extern "C" fn megharutti_first_beyond_doubles(
     hand_place(answer, found)
 }
 
-fn packed_number(answer: packing::Packed) -> u32
-    ensures { result ≡ number_for_c (packing.answer_of answer) }
-{
-    match answer {
-        packing::Packed::Done => 0,
-        packing::Packed::Refused(n) => n,
-    }
-}
-
+#[tactic(auto, unfolding(crate::specs::ForC::number_for_c))]
 // Packs an array of singles, layer by layer, each by its own width.
 #[unsafe(no_mangle)]
 pub extern "C" fn megharutti_pack(
@@ -162,19 +174,10 @@ pub extern "C" fn megharutti_pack(
     ensures references { map (to_bits binary32) references.new ≡ (packing.packed mark length widths.now readings.now codes.old references.old exponents.old).references }
     ensures exponents { exponents.new ≡ (packing.packed mark length widths.now readings.now codes.old references.old exponents.old).exponents }
 {
-    let answer = packing::pack(readings, length, mark, widths, codes, references, exponents);
-    packed_number(answer)
+    number_of(packing::pack(readings, length, mark, widths, codes, references, exponents))
 }
 
-fn unpacked_number(answer: unpacking::Unpacked) -> u32
-    ensures { result ≡ number_for_c (unpacking.answer_of answer) }
-{
-    match answer {
-        unpacking::Unpacked::Done => 0,
-        unpacking::Unpacked::Refused(n) => n,
-    }
-}
-
+#[tactic(auto, unfolding(crate::specs::ForC::number_for_c))]
 // Unpacks layers, each of its own width, into an array of doubles.
 #[unsafe(no_mangle)]
 pub extern "C" fn megharutti_unpack(
@@ -189,21 +192,21 @@ pub extern "C" fn megharutti_unpack(
     ensures answer { result ≡ number_for_c (unpack mark length widths.now codes.now (map (to_bits binary32) references.now) exponents.now readings.old).answer }
     ensures content { readings.new ≡ (unpack mark length widths.now codes.now (map (to_bits binary32) references.now) exponents.now readings.old).readings }
 {
-    let answer = unpacking::unpack(widths, codes, references, exponents, length, mark, readings);
-    unpacked_number(answer)
+    number_of(unpacking::unpack(widths, codes, references, exponents, length, mark, readings))
 }
 
 // A layer's totals in C's form.
-fn hand_totals(answer: totals::Total, out: &mut [u64; 2]) -> u32
+#[tactic(auto, unfolding(crate::specs::ForC::number_for_c, crate::specs::ForC::totals_for_c))]
+fn hand_totals(answer: Result<Total, Refusal>, out: &mut [u64; 2]) -> u32
     ensures number { result ≡ number_for_c (totalled.answer_of answer) }
     ensures totals { out.new ≡ totals_for_c (totalled.answer_of answer) out.old }
 {
     match answer {
-        totals::Total::Present { count, sum } => {
+        Ok(Total { count, sum }) => {
             *out = [count as u64, sum as u64];
             0
         }
-        totals::Total::Refused(n) => n,
+        Err(refusal) => refusal.number(),
     }
 }
 
@@ -217,23 +220,13 @@ pub extern "C" fn megharutti_totals(codes: &[u16], width: u32, out: &mut [u64; 2
     hand_totals(answer, out)
 }
 
-fn converted_number(answer: planes::Converted) -> u32
-    ensures { result ≡ number_for_c (planes.answer_of answer) }
-{
-    match answer {
-        planes::Converted::Done => 0,
-        planes::Converted::Refused(n) => n,
-    }
-}
-
 // Writes the four byte planes of an array of singles, lowest byte first.
 #[unsafe(no_mangle)]
 pub extern "C" fn megharutti_planes_of_singles(readings: &[u32], planes: &mut [u8]) -> u32
     ensures answer { result ≡ number_for_c (to_planes 4 readings.now planes.old).answer }
     ensures content { planes.new ≡ (to_planes 4 readings.now planes.old).content }
 {
-    let answer = planes::planes_of_singles(readings, planes);
-    converted_number(answer)
+    number_of(planes::planes_of_singles(readings, planes))
 }
 
 // Writes the array of singles that stands in four byte planes.
@@ -242,8 +235,7 @@ pub extern "C" fn megharutti_singles_of_planes(planes: &[u8], readings: &mut [u3
     ensures answer { result ≡ number_for_c (from_planes 4 planes.now readings.old).answer }
     ensures content { readings.new ≡ (from_planes 4 planes.now readings.old).content }
 {
-    let answer = planes::singles_of_planes(planes, readings);
-    converted_number(answer)
+    number_of(planes::singles_of_planes(planes, readings))
 }
 
 // Trims n singles in their byte planes. `counts` gets what it gets of an array.
@@ -270,8 +262,7 @@ pub extern "C" fn megharutti_planes_of_doubles(readings: &[u64], planes: &mut [u
     ensures answer { result ≡ number_for_c (to_planes 8 readings.now planes.old).answer }
     ensures content { planes.new ≡ (to_planes 8 readings.now planes.old).content }
 {
-    let answer = planes::planes_of_doubles(readings, planes);
-    converted_number(answer)
+    number_of(planes::planes_of_doubles(readings, planes))
 }
 
 // Writes the array of doubles that stands in eight byte planes.
@@ -280,8 +271,7 @@ pub extern "C" fn megharutti_doubles_of_planes(planes: &[u8], readings: &mut [u6
     ensures answer { result ≡ number_for_c (from_planes 8 planes.now readings.old).answer }
     ensures content { readings.new ≡ (from_planes 8 planes.now readings.old).content }
 {
-    let answer = planes::doubles_of_planes(planes, readings);
-    converted_number(answer)
+    number_of(planes::doubles_of_planes(planes, readings))
 }
 
 // Trims n doubles in their byte planes. `counts` gets what it gets of an array.

@@ -1,16 +1,10 @@
 // The kinds of cases about packing and unpacking, with up to four readings. Each function runs a row's case on the library, prints it, and answers whether it is right.
 ghost use Rattle.std.specs.Prelude.{◌≤◌};
 
-use crate::trims::same_singles;
-use table::fields::{
-    MARK, MARK_DOUBLE, codes, count, decimal, doubles, exponents, length_of, mark_double, refusal,
-    signed, single, singles, width, widths,
-};
-use table::line::{
-    answered, double_at, end, expecting, getting, judge_accepted, put_codes, put_doubles,
-    put_exponents, put_number, put_numbers, put_signed, put_singles, put_text, single_at, start,
-    start_list,
-};
+use crate::trims::number_of;
+use refusal::Refusal;
+use table::fields::{Items, MARK, MARK_DOUBLE, Row};
+use table::line::Printer;
 
 // A reference by its pattern. Rattle makes no float of a NaN's bits, but a division gives one, and the library knows no other.
 fn value(pattern: u32) -> f32 {
@@ -29,351 +23,276 @@ fn pattern(x: f32) -> u32 {
     0x7FC00000
 }
 
-fn values(patterns: [u32; 4]) -> [f32; 4] {
-    [
-        value(patterns[0]),
-        value(patterns[1]),
-        value(patterns[2]),
-        value(patterns[3]),
-    ]
-}
-
-fn patterns(all: [f32; 4]) -> [u32; 4] {
-    [
-        pattern(all[0]),
-        pattern(all[1]),
-        pattern(all[2]),
-        pattern(all[3]),
-    ]
-}
-
-fn same_codes(a: [u16; 4], b: [u16; 4]) -> bool {
-    a[0] == b[0] && a[1] == b[1] && a[2] == b[2] && a[3] == b[3]
-}
-
-fn same_exponents(a: [i32; 4], b: [i32; 4]) -> bool {
-    a[0] == b[0] && a[1] == b[1] && a[2] == b[2] && a[3] == b[3]
-}
-
-fn same_doubles(a: [u64; 4], b: [u64; 4]) -> bool {
-    a[0] == b[0] && a[1] == b[1] && a[2] == b[2] && a[3] == b[3]
-}
-
 // What the arrays hold before a call whose refusal is asked for: refused, they hold it still.
 const BEFORE: u16 = 7;
 
-// What a packing left, and the refusal's number, 0 for none.
-#[derive(Clone, Copy)]
-pub struct Packs {
-    pub number: u32,
-    pub references: [u32; 4],
-    pub exponents: [i32; 4],
-    pub codes: [u16; 4],
+// The arrays that a packing writes, references by their patterns.
+#[derive(Clone, Copy, Debug, PartialEq, Eq)]
+struct Written {
+    codes: [u16; 4],
+    references: [u32; 4],
+    exponents: [i32; 4],
 }
 
-fn packed_number(answer: packing::Packed) -> u32 {
-    match answer {
-        packing::Packed::Done => 0,
-        packing::Packed::Refused(n) => n,
+impl Written {
+    // Arrays that hold `before` throughout.
+    fn throughout(before: u16) -> Written {
+        Written {
+            codes: [before; 4],
+            references: [pattern(before as f32); 4],
+            exponents: [before as i32; 4],
+        }
     }
 }
 
-// n readings packed by m widths into arrays of the lengths given, each at most 4, which held `before` throughout.
-fn pack(
-    before: u16,
-    readings: [u32; 4],
-    n: usize,
-    length: usize,
-    widths: [u32; 4],
-    m: usize,
+// How many items each of these arrays has.
+#[derive(Clone, Copy)]
+struct Lengths {
     codes: usize,
     references: usize,
     exponents: usize,
-) -> Packs
-    requires { (n ≤ 4) × (m ≤ 4) × (codes ≤ 4) × (references ≤ 4) × (exponents ≤ 4) }
-{
-    let mut c = [before; 4];
-    let mut r = [before as f32; 4];
-    let mut e = [before as i32; 4];
+    ghost at_most_four: { (codes ≤ 4) × (references ≤ 4) × (exponents ≤ 4) },
+}
+
+// Packs into arrays of these lengths, which held `before` throughout: what they hold then, and what was answered.
+fn pack(
+    before: u16,
+    readings: &[u32],
+    length: usize,
+    widths: &[u32],
+    room: Lengths,
+) -> (Written, Result<(), Refusal>) {
+    let mut codes = [before; 4];
+    let mut references = [before as f32; 4];
+    let mut exponents = [before as i32; 4];
     let answer = packing::pack(
-        &readings[..n],
+        readings,
         length,
         MARK,
-        &widths[..m],
-        &mut c[..codes],
-        &mut r[..references],
-        &mut e[..exponents],
+        widths,
+        &mut codes[..room.codes],
+        &mut references[..room.references],
+        &mut exponents[..room.exponents],
     );
-    let number = packed_number(answer);
-    let bits = patterns(r);
-    Packs {
-        number,
-        references: bits,
-        exponents: e,
-        codes: c,
-    }
+    let written = Written {
+        codes,
+        references: references.map(pattern),
+        exponents,
+    };
+    (written, answer)
 }
 
 fn put_layers(
-    out: &impl Print,
-    at: usize,
-    references: [u32; 4],
-    exponents: [i32; 4],
-    layers: usize,
-    codes: [u16; 4],
-    n: usize,
-) -> usize {
-    let at = put_singles(out, put_text(out, at, b" R"), references, layers);
-    let at = put_exponents(out, put_text(out, at, b" E"), exponents, layers);
-    put_codes(out, put_text(out, at, b" codes"), codes, n)
+    out: &mut Printer<'_, impl Print>,
+    references: &[u32],
+    exponents: &[i32],
+    codes: &[u16],
+) {
+    out.put(" R");
+    out.patterns(references);
+    out.put(" E");
+    out.numbers(exponents);
+    out.put(" codes");
+    out.numbers(codes);
 }
 
 // Singles packed into as many layers as there are references, with document 01's mark.
-pub fn layers(out: &impl Print, row: &[u8]) -> bool {
-    let length = decimal(row, 2);
-    let bits = widths(row, 3);
-    let readings = singles(row, 4);
-    let n = count(row, 4);
-    let references = singles(row, 5);
-    let number = count(row, 5);
-    let steps = exponents(row, 6);
-    let all = codes(row, 7);
-    let got = pack(
+pub fn layers(out: &mut Printer<'_, impl Print>, row: Row<'_>) -> bool {
+    let length = row.decimal(2);
+    let widths = row.widths(3);
+    let readings = row.singles(4);
+    let references = row.singles(5);
+    let exponents = row.exponents(6);
+    let codes = row.codes(7);
+    let room = Lengths {
+        codes: readings.len(),
+        references: references.len(),
+        exponents: references.len(),
+    };
+    let (got, answer) = pack(
         0,
-        readings,
-        n,
+        readings.as_slice(),
         length as usize,
-        bits,
-        number,
-        n,
-        number,
-        number,
+        widths.as_slice(),
+        room,
     );
-    let got_references = got.references;
-    let got_steps = got.exponents;
-    let got_codes = got.codes;
-    let at = put_text(
+    let got_references = &got.references[..room.references];
+    let got_exponents = &got.exponents[..room.exponents];
+    let got_codes = &got.codes[..room.codes];
+    let ok = got_references == references.as_slice()
+        && got_exponents == exponents.as_slice()
+        && got_codes == codes.as_slice();
+    out.start_list(row);
+    out.patterns(readings.as_slice());
+    out.put(format_args!(" L {length} widths"));
+    out.numbers(widths.as_slice());
+    out.expecting();
+    put_layers(
         out,
-        put_singles(out, start_list(out, row), readings, n),
-        b" L ",
+        references.as_slice(),
+        exponents.as_slice(),
+        codes.as_slice(),
     );
-    put_numbers(
-        out,
-        put_text(out, put_number(out, at, length), b" widths"),
-        bits,
-        number,
-    );
-    end(out);
-    put_layers(out, expecting(out), references, steps, number, all, n);
-    end(out);
-    let at = put_layers(
-        out,
-        getting(out),
-        got_references,
-        got_steps,
-        number,
-        got_codes,
-        n,
-    );
-    let ok = same_singles(got_references, references)
-        && same_exponents(got_steps, steps)
-        && same_codes(got_codes, all);
-    judge_accepted(out, row, put_text(out, at, b" "), ok, got.number != 0)
+    out.getting();
+    put_layers(out, got_references, got_exponents, got_codes);
+    out.put(" ");
+    out.judge_accepted(row, answer.map(|_| ok))
 }
 
-fn put_count(out: &impl Print, at: usize, n: usize, what: &[u8]) -> usize {
-    let at = put_number(out, put_text(out, at, b", "), n as u64);
-    put_text(out, put_text(out, at, b" "), what)
-}
-
-// Do the arrays hold what they held before?
-fn untouched(left: Packs) -> bool {
-    let references = left.references;
-    let exponents = left.exponents;
-    let codes = left.codes;
-    same_singles(references, [0x40E00000; 4])
-        && same_exponents(exponents, [BEFORE as i32; 4])
-        && same_codes(codes, [BEFORE; 4])
-}
-
-// Packing's questions, with document 01's mark: lengths of the arrays, at most 4, and the refusal's number, or 0. Refused, nothing is written.
-pub fn asked_pack(out: &impl Print, row: &[u8]) -> bool {
-    let length = decimal(row, 2);
-    let bits = widths(row, 3);
-    let m = count(row, 3);
-    let n = count(row, 4);
-    let codes = length_of(row, 5);
-    let references = length_of(row, 6);
-    let exponents = length_of(row, 7);
-    let at = put_number(out, put_text(out, start(out, row), b"pack, L "), length);
-    let at = put_numbers(out, put_text(out, at, b", widths"), bits, m);
-    let at = put_count(out, at, n, b"readings");
-    let at = put_count(out, at, codes, b"codes");
-    let at = put_count(out, at, references, b"R");
-    let at = put_count(out, at, exponents, b"E");
-    let readings = singles(row, 4);
-    let got = pack(
+// Packing's questions, with document 01's mark: lengths of the arrays, at most 4. Refused, nothing is written.
+pub fn asked_pack(out: &mut Printer<'_, impl Print>, row: Row<'_>) -> bool {
+    let length = row.decimal(2);
+    let widths = row.widths(3);
+    let readings = row.singles(4);
+    let room = Lengths {
+        codes: row.length(5),
+        references: row.length(6),
+        exponents: row.length(7),
+    };
+    let expected = row.refusal(8);
+    let (left, answer) = pack(
         BEFORE,
-        readings,
-        n,
+        readings.as_slice(),
         length as usize,
-        bits,
-        m,
-        codes,
-        references,
-        exponents,
+        widths.as_slice(),
+        room,
     );
-    let expected = refusal(row, 8);
-    let ok = expected == 0 || untouched(got);
-    answered(out, row, at, expected, got.number, ok)
+    out.start(row);
+    out.put(format_args!("pack, L {length}, widths"));
+    out.numbers(widths.as_slice());
+    out.put(format_args!(", {} readings", readings.len()));
+    put_lengths(out, room);
+    let ok = expected.is_none() || left == Written::throughout(BEFORE);
+    out.answered(row, expected, number_of(answer), ok)
 }
 
-// What an unpacking left, and the refusal's number, 0 for none.
+fn put_lengths(out: &mut Printer<'_, impl Print>, lengths: Lengths) {
+    out.put(format_args!(
+        ", {} codes, {} R, {} E",
+        lengths.codes, lengths.references, lengths.exponents
+    ));
+}
+
+// Layers as they are unpacked, references by their patterns.
 #[derive(Clone, Copy)]
-pub struct Unpacks {
-    pub number: u32,
-    pub readings: [u64; 4],
+struct Packed<'a> {
+    widths: &'a [u32],
+    codes: &'a [u16],
+    references: &'a [u32],
+    exponents: &'a [i32],
+    length: usize,
 }
 
-fn unpacked_number(answer: unpacking::Unpacked) -> u32 {
-    match answer {
-        unpacking::Unpacked::Done => 0,
-        unpacking::Unpacked::Refused(n) => n,
-    }
-}
-
-// Arrays of the lengths given, each at most 4, unpacked into one that held `before` throughout.
+// Unpacks into an array of at most 4 readings, which held `before` throughout: what it holds then, and what was answered.
 fn unpack(
     before: u16,
-    widths: [u32; 4],
-    j: usize,
-    codes: [u16; 4],
-    n: usize,
-    references: [u32; 4],
-    m: usize,
-    exponents: [i32; 4],
-    k: usize,
-    length: usize,
+    layers: Packed<'_>,
     mark: u64,
-    readings: usize,
-) -> Unpacks
-    requires { (j ≤ 4) × (n ≤ 4) × (m ≤ 4) × (k ≤ 4) × (readings ≤ 4) }
+    room: usize,
+) -> ([u64; 4], Result<(), Refusal>)
+    requires { room ≤ 4 }
 {
-    let r = values(references);
-    let mut x = [before as u64; 4];
-    let answer = unpacking::unpack(
-        &widths[..j],
-        &codes[..n],
-        &r[..m],
-        &exponents[..k],
-        length,
-        mark,
-        &mut x[..readings],
-    );
-    let number = unpacked_number(answer);
-    Unpacks {
-        number,
-        readings: x,
+    let mut references: Items<f32> = Items::new();
+    for reference in layers.references {
+        let _ = references.try_push(value(*reference));
     }
+    let mut readings = [before as u64; 4];
+    let answer = unpacking::unpack(
+        layers.widths,
+        layers.codes,
+        references.as_slice(),
+        layers.exponents,
+        layers.length,
+        mark,
+        &mut readings[..room],
+    );
+    (readings, answer)
 }
 
 // The codes of one layer, unpacked into doubles.
-pub fn unpacked(out: &impl Print, row: &[u8]) -> bool {
-    let bits = width(row, 2);
-    let all = codes(row, 3);
-    let n = count(row, 3);
-    let references = singles(row, 4);
-    let steps = exponents(row, 5);
-    let missing = mark_double(row, 6);
-    let expected = doubles(row, 7);
-    let got = unpack(
-        0, [bits; 4], 1, all, n, references, 1, steps, 1, n, missing, n,
-    );
-    let readings = got.readings;
-    let at = put_number(
-        out,
-        put_text(out, start_list(out, row), b" width "),
-        bits as u64,
-    );
-    let at = put_layers(out, at, references, steps, 1, all, n);
-    double_at(out, put_text(out, at, b" mark"), 0, missing);
-    end(out);
-    put_doubles(out, expecting(out), expected, n);
-    end(out);
-    let at = put_text(out, put_doubles(out, getting(out), readings, n), b" ");
-    judge_accepted(
-        out,
-        row,
-        at,
-        same_doubles(readings, expected),
-        got.number != 0,
-    )
+pub fn unpacked(out: &mut Printer<'_, impl Print>, row: Row<'_>) -> bool {
+    let width = row.width(2);
+    let codes = row.codes(3);
+    let missing = row.mark_double(6);
+    let expected = row.doubles(7);
+    let layer = Packed {
+        widths: &[width],
+        codes: codes.as_slice(),
+        references: &[row.single(4)],
+        exponents: &[row.signed(5)],
+        length: codes.len(),
+    };
+    let (readings, answer) = unpack(0, layer, missing, codes.len());
+    let got = &readings[..codes.len()];
+    out.start_list(row);
+    out.put(format_args!(" width {width}"));
+    put_layers(out, layer.references, layer.exponents, layer.codes);
+    out.put(" mark");
+    out.pattern_at(0, missing);
+    out.expecting();
+    out.patterns(expected.as_slice());
+    out.getting();
+    out.patterns(got);
+    out.put(" ");
+    out.judge_accepted(row, answer.map(|_| got == expected.as_slice()))
 }
 
-// The last columns of a case about unpacking's questions. Refused, nothing is written.
-fn refused_or(out: &impl Print, row: &[u8], at: usize, expected: u32, left: Unpacks) -> bool {
-    let readings = left.readings;
-    let ok = expected == 0 || same_doubles(readings, [BEFORE as u64; 4]);
-    answered(out, row, at, expected, left.number, ok)
+// Do the readings hold what they held before?
+fn untouched(readings: [u64; 4]) -> bool {
+    readings == [BEFORE as u64; 4]
 }
 
-// Unpacking's questions on lengths of the arrays, at most 4: the refusal's number, or 0.
-pub fn asked_unpack(out: &impl Print, row: &[u8]) -> bool {
-    let length = decimal(row, 2);
-    let bits = widths(row, 3);
-    let m = count(row, 3);
-    let codes = length_of(row, 4);
-    let references = length_of(row, 5);
-    let exponents = length_of(row, 6);
-    let readings = length_of(row, 7);
-    let at = put_number(out, put_text(out, start(out, row), b"unpack, L "), length);
-    let at = put_numbers(out, put_text(out, at, b", widths"), bits, m);
-    let at = put_count(out, at, codes, b"codes");
-    let at = put_count(out, at, references, b"R");
-    let at = put_count(out, at, exponents, b"E");
-    let at = put_count(out, at, readings, b"readings");
-    let got = unpack(
-        BEFORE,
-        bits,
-        m,
-        [0; 4],
-        codes,
-        [0; 4],
-        references,
-        [0; 4],
-        exponents,
-        length as usize,
-        MARK_DOUBLE,
-        readings,
-    );
-    refused_or(out, row, at, refusal(row, 8), got)
+// Unpacking's questions on lengths of the arrays, at most 4. Refused, nothing is written.
+pub fn asked_unpack(out: &mut Printer<'_, impl Print>, row: Row<'_>) -> bool {
+    let length = row.decimal(2);
+    let widths = row.widths(3);
+    let given = Lengths {
+        codes: row.length(4),
+        references: row.length(5),
+        exponents: row.length(6),
+    };
+    let room = row.length(7);
+    let expected = row.refusal(8);
+    let layers = Packed {
+        widths: widths.as_slice(),
+        codes: &[0; 4][..given.codes],
+        references: &[0; 4][..given.references],
+        exponents: &[0; 4][..given.exponents],
+        length: length as usize,
+    };
+    let (left, answer) = unpack(BEFORE, layers, MARK_DOUBLE, room);
+    out.start(row);
+    out.put(format_args!("unpack, L {length}, widths"));
+    out.numbers(widths.as_slice());
+    put_lengths(out, given);
+    out.put(format_args!(", {room} readings"));
+    let ok = expected.is_none() || untouched(left);
+    out.answered(row, expected, number_of(answer), ok)
 }
 
-// Unpacking's questions on a layer of one code and on the double mark.
-pub fn asked_layer(out: &impl Print, row: &[u8]) -> bool {
-    let bits = width(row, 2);
-    let code = codes(row, 3);
-    let reference = single(row, 4);
-    let exponent = signed(row, 5);
-    let missing = mark_double(row, 6);
-    let at = put_number(out, put_text(out, start(out, row), b"width "), bits as u64);
-    let at = put_codes(out, put_text(out, at, b", code"), code, 1);
-    let at = single_at(out, put_text(out, at, b", R"), 0, reference);
-    let at = put_signed(out, put_text(out, at, b", E "), exponent);
-    let at = double_at(out, put_text(out, at, b", mark"), 0, missing);
-    let got = unpack(
-        BEFORE,
-        [bits; 4],
-        1,
-        code,
-        1,
-        [reference; 4],
-        1,
-        [exponent; 4],
-        1,
-        1,
-        missing,
-        1,
-    );
-    refused_or(out, row, at, refusal(row, 7), got)
+// Unpacking's questions on a layer of one code and on the double mark. Refused, nothing is written.
+pub fn asked_layer(out: &mut Printer<'_, impl Print>, row: Row<'_>) -> bool {
+    let width = row.width(2);
+    let codes = row.codes(3);
+    let reference = row.single(4);
+    let exponent = row.signed(5);
+    let missing = row.mark_double(6);
+    let expected = row.refusal(7);
+    let layer = Packed {
+        widths: &[width],
+        codes: codes.as_slice(),
+        references: &[reference],
+        exponents: &[exponent],
+        length: 1,
+    };
+    let (left, answer) = unpack(BEFORE, layer, missing, 1);
+    out.start(row);
+    out.put(format_args!("width {width}, code"));
+    out.numbers(codes.as_slice());
+    out.put(", R");
+    out.pattern_at(0, reference);
+    out.put(format_args!(", E {exponent}, mark"));
+    out.pattern_at(0, missing);
+    let ok = expected.is_none() || untouched(left);
+    out.answered(row, expected, number_of(answer), ok)
 }

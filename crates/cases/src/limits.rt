@@ -1,164 +1,108 @@
 // The kinds of cases about the first reading beyond a limit, with up to four readings in each array. Each function runs a row's case on the library, prints it, and answers
 // whether it is right.
-ghost use Rattle.std.specs.Prelude.{◌≤◌};
+use beyond::Compared;
+use refusal::Refusal;
+use table::fields::Row;
+use table::line::{Pattern, Printer};
 
-use table::fields::{count, decimal, doubles, field, mark, mark_double, refusal, signed, singles};
-use table::line::{
-    double_at, end, expecting, getting, judge, put_doubles, put_number, put_signed, put_singles,
-    put_text, single_at, start_list,
-};
-
-// What a comparison answers, or has to: the refusal's number, whether a place was found and which, and whether there is a number of readings read and which.
-#[derive(Clone, Copy)]
-pub struct Seen {
-    pub refusal: u32,
-    pub found: bool,
-    pub place: u64,
-    pub counted: bool,
-    pub read: u64,
+// What a comparison answers, or has to: the refusal's number, the place that was found, and how many readings were read.
+#[derive(Clone, Copy, Debug, PartialEq, Eq)]
+struct Seen {
+    refusal: Option<u32>,
+    place: Option<u64>,
+    read: Option<u64>,
 }
 
-fn seen_of(answer: beyond::Compared) -> Seen {
-    match answer {
-        beyond::Compared::Beyond { place, read } => Seen {
-            refusal: 0,
-            found: true,
-            place: place as u64,
-            counted: true,
-            read: read as u64,
-        },
-        beyond::Compared::None { read } => Seen {
-            refusal: 0,
-            found: false,
-            place: 0,
-            counted: true,
-            read: read as u64,
-        },
-        beyond::Compared::Refused(n) => Seen {
-            refusal: n,
-            found: false,
-            place: 0,
-            counted: false,
-            read: 0,
-        },
+impl Seen {
+    fn of(answer: Result<Compared, Refusal>) -> Seen {
+        match answer {
+            Ok(compared) => Seen {
+                refusal: None,
+                place: compared.place.map(|place| place as u64),
+                read: Some(compared.read as u64),
+            },
+            Err(refusal) => Seen {
+                refusal: Some(refusal.number()),
+                place: None,
+                read: None,
+            },
+        }
+    }
+
+    // What the row says: place, number read and refusal. An empty place is none, and an empty number is none.
+    fn expected(row: Row<'_>) -> Seen {
+        Seen {
+            refusal: row.refusal(8),
+            place: row.given(6),
+            read: row.given(7),
+        }
+    }
+
+    fn put(self, out: &mut Printer<'_, impl Print>) {
+        if let Some(number) = self.refusal {
+            out.put(format_args!(" refused {number}"));
+        }
+        match (self.place, self.refusal) {
+            (Some(place), _) => out.put(format_args!(" place {place}")),
+            (None, None) => out.put(" none"),
+            (None, Some(_)) => {}
+        }
+        if let Some(read) = self.read {
+            out.put(format_args!(", read {read}"));
+        }
     }
 }
 
-// What the row says: place, number read and refusal. An empty place is none, and an empty number is none.
-fn expected(row: &[u8]) -> Seen {
-    Seen {
-        refusal: refusal(row, 8),
-        found: field(row, 6).len() > 0,
-        place: decimal(row, 6),
-        counted: field(row, 7).len() > 0,
-        read: decimal(row, 7),
-    }
-}
-
-fn same_seen(a: Seen, b: Seen) -> bool {
-    a.refusal == b.refusal
-        && a.found == b.found
-        && a.place == b.place
-        && a.counted == b.counted
-        && a.read == b.read
-}
-
-fn put_place(out: &impl Print, at: usize, s: Seen) -> usize {
-    if s.found {
-        return put_number(out, put_text(out, at, b" place "), s.place);
-    }
-    if s.refusal == 0 {
-        return put_text(out, at, b" none");
-    }
-    at
-}
-
-fn put_seen(out: &impl Print, start: usize, s: Seen) -> usize {
-    let mut at = start;
-    if s.refusal != 0 {
-        at = put_number(out, put_text(out, at, b" refused "), s.refusal as u64);
-    }
-    at = put_place(out, at, s);
-    if s.counted {
-        return put_number(out, put_text(out, at, b", read "), s.read);
-    }
-    at
-}
-
-// The limit, behind the two lists and before the mark.
-fn put_limit(out: &impl Print, at: usize, p: i32) -> usize {
-    put_text(
-        out,
-        put_signed(out, put_text(out, at, b", limit 2^"), p),
-        b", mark",
-    )
-}
-
-// The two lines behind what is given, and the verdict.
-fn judge_seen(out: &impl Print, row: &[u8], got: Seen) -> bool {
-    end(out);
-    put_seen(out, expecting(out), expected(row));
-    end(out);
-    let at = put_text(out, put_seen(out, getting(out), got), b" ");
-    judge(out, row, at, same_seen(got, expected(row)))
-}
-
-// The first n singles beside the first m, of lists of up to four.
-fn compared(raw: [u32; 4], n: usize, trimmed: [u32; 4], m: usize, mark: u32, p: i32) -> Seen
-    requires { (n ≤ 4) × (m ≤ 4) }
-{
-    seen_of(beyond::first_beyond_singles(&raw[..n], &trimmed[..m], mark, p))
-}
-
-// The same of doubles.
-fn compared_doubles(raw: [u64; 4], n: usize, trimmed: [u64; 4], m: usize, mark: u64, p: i32) -> Seen
-    requires { (n ≤ 4) × (m ≤ 4) }
-{
-    seen_of(beyond::first_beyond_doubles(&raw[..n], &trimmed[..m], mark, p))
+// Prints a comparison of two arrays, and what came beside what had to.
+fn judged<T: Pattern>(
+    out: &mut Printer<'_, impl Print>,
+    row: Row<'_>,
+    raw: &[T],
+    trimmed: &[T],
+    mark: T,
+    answer: Result<Compared, Refusal>,
+) -> bool {
+    let p = row.signed(2);
+    let expected = Seen::expected(row);
+    let got = Seen::of(answer);
+    out.start_list(row);
+    out.patterns(raw);
+    out.put(" beside");
+    out.patterns(trimmed);
+    out.put(format_args!(", limit 2^{p}, mark"));
+    out.pattern_at(0, mark);
+    out.expecting();
+    expected.put(out);
+    out.getting();
+    got.put(out);
+    out.put(" ");
+    out.judge(row, got == expected)
 }
 
 // Up to four singles as they were sent, beside as many as they were trimmed.
-pub fn exceeds(out: &impl Print, row: &[u8]) -> bool {
-    let p = signed(row, 2);
-    let raw = singles(row, 3);
-    let trimmed = singles(row, 4);
-    let n = count(row, 3);
-    let m = count(row, 4);
-    let missing = mark(row, 5);
-    let got = compared(raw, n, trimmed, m, missing, p);
-    let at = put_text(
-        out,
-        put_singles(out, start_list(out, row), raw, n),
-        b" beside",
+pub fn exceeds(out: &mut Printer<'_, impl Print>, row: Row<'_>) -> bool {
+    let raw = row.singles(3);
+    let trimmed = row.singles(4);
+    let mark = row.mark(5);
+    let answer = beyond::first_beyond_singles(
+        raw.as_slice(),
+        trimmed.as_slice(),
+        mark,
+        row.signed(2),
     );
-    single_at(
-        out,
-        put_limit(out, put_singles(out, at, trimmed, m), p),
-        0,
-        missing,
-    );
-    judge_seen(out, row, got)
+    judged(out, row, raw.as_slice(), trimmed.as_slice(), mark, answer)
 }
 
 // The same of doubles.
-pub fn outside(out: &impl Print, row: &[u8]) -> bool {
-    let p = signed(row, 2);
-    let raw = doubles(row, 3);
-    let trimmed = doubles(row, 4);
-    let n = count(row, 3);
-    let m = count(row, 4);
-    let missing = mark_double(row, 5);
-    let got = compared_doubles(raw, n, trimmed, m, missing, p);
-    let at = put_text(
-        out,
-        put_doubles(out, start_list(out, row), raw, n),
-        b" beside",
+pub fn outside(out: &mut Printer<'_, impl Print>, row: Row<'_>) -> bool {
+    let raw = row.doubles(3);
+    let trimmed = row.doubles(4);
+    let mark = row.mark_double(5);
+    let answer = beyond::first_beyond_doubles(
+        raw.as_slice(),
+        trimmed.as_slice(),
+        mark,
+        row.signed(2),
     );
-    double_at(
-        out,
-        put_limit(out, put_doubles(out, at, trimmed, m), p),
-        0,
-        missing,
-    );
-    judge_seen(out, row, got)
+    judged(out, row, raw.as_slice(), trimmed.as_slice(), mark, answer)
 }

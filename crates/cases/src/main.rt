@@ -15,7 +15,7 @@ mod sums;
 mod texts;
 mod trims;
 
-use sheet_rows::{rows, too_long};
+use sheet_rows::{NoReader, rows, too_long};
 use std::env::FillError;
 use std::io::Read;
 use std::process::ExitCode;
@@ -37,7 +37,7 @@ fn about(rt: &impl Eprint) {
     );
 }
 
-// Reads until `text` is full, the input ends or a read fails: how many bytes came.
+// Reads until `text` is full, the input ends or a read fails: how many bytes came. A `while`, since each read says where the next one begins.
 fn read_full(input: &mut impl Read, text: &mut [u8]) -> usize
     ensures { result ≤ length text.new }
 {
@@ -51,8 +51,8 @@ fn read_full(input: &mut impl Read, text: &mut [u8]) -> usize
     bytes
 }
 
-// Runs the sheet. Is there a reader for the table?
-fn run(rt: &(impl Input + Print)) -> bool {
+// Runs the sheet.
+fn run(rt: &(impl Input + Print)) -> Result<(), NoReader> {
     let mut input = rt.reader();
     let mut text = [0u8; 65536];
     let n = read_full(&mut input, &mut text);
@@ -68,8 +68,8 @@ fn main(rt: HostRuntime) -> ExitCode {
         about(&rt);
         return ExitCode::SUCCESS;
     }
-    if run(&rt) {
-        return ExitCode::SUCCESS;
+    match run(&rt) {
+        Ok(()) => ExitCode::SUCCESS,
+        Err(NoReader) => ExitCode::from(NO_READER),
     }
-    ExitCode::from(NO_READER)
 }

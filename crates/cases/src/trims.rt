@@ -1,278 +1,214 @@
 // The kinds of cases about trimming. Each function runs a row's case on the library, prints it, and answers whether it is right.
-ghost use Rattle.std.specs.Prelude.{◌≤◌};
-
-use table::fields::{
-    CLIPPED, CONTRADICTORY, MARK, MARK_DOUBLE, MISSING, PLAIN, REFUSED, SPARED, bits, count, fate,
-    field, hex, mark, method, refusal, signed, single, singles,
-};
-use table::line::{
-    answered, double_at, end, expecting, fill, getting, judge, judge_accepted, judge_fate,
-    put_call, put_number, put_singles, put_text, single_at, start_call, start_list,
-};
+use refusal::Refusal;
+use std::cmp::Ordering;
+use table::fate::Fate;
+use table::fields::{MARK, MARK_DOUBLE, Row};
+use table::line::Printer;
+use trim::{Counts, trim_doubles, trim_singles};
 
 const PI: u32 = 0x40490FDB;
 
 const PI_DOUBLE: u64 = 0x400921FB54442D18;
 
 // Where the exact value went, from one pattern to another of the same sign.
-#[derive(Clone, Copy)]
-pub enum Way {
+#[derive(Clone, Copy, Debug, PartialEq, Eq)]
+enum Way {
     Up,
     Down,
     Nowhere,
 }
 
-// Below zero, the larger pattern lies lower.
-fn went(negative: bool, stays: bool, grows: bool) -> Way {
-    if stays {
-        return Way::Nowhere;
+impl Way {
+    // By how the pattern that came compares with the one before. Below zero, the larger pattern lies lower.
+    fn of(is_negative: bool, order: Ordering) -> Way {
+        match (order, is_negative) {
+            (Ordering::Equal, _) => Way::Nowhere,
+            (Ordering::Greater, false) | (Ordering::Less, true) => Way::Up,
+            _ => Way::Down,
+        }
     }
-    if grows != negative {
-        Way::Up
-    } else {
-        Way::Down
-    }
-}
 
-// The counts changed, risen and fallen of an array of one whose exact value went there.
-fn agree(to: Way, changed: u64, risen: u64, fallen: u64) -> bool {
-    match to {
-        Way::Up => changed == 1 && risen == 1 && fallen == 0,
-        Way::Down => changed == 1 && risen == 0 && fallen == 1,
-        Way::Nowhere => changed == 0 && risen == 0 && fallen == 0,
+    // Do the counts of an array of one whose exact value went there say so?
+    fn agrees(self, counts: Counts) -> bool {
+        let (changed, risen, fallen) = match self {
+            Way::Up => (1, 1, 0),
+            Way::Down => (1, 0, 1),
+            Way::Nowhere => (0, 0, 0),
+        };
+        counts.changed == changed && counts.risen == risen && counts.fallen == fallen
     }
-}
 
-// What stands above the pattern in the loader's number.
-fn gain(to: Way) -> u64 {
-    match to {
-        Way::Up => 2,
-        Way::Down => 4,
-        Way::Nowhere => 0,
+    // What stands above the pattern in the loader's number.
+    fn gain(self) -> u64 {
+        match self {
+            Way::Up => 2,
+            Way::Down => 4,
+            Way::Nowhere => 0,
+        }
     }
 }
 
 // What the counts of an array of one say, whose exact value went there.
-fn fate_of(answer: trim::Answer, to: Way) -> u32 {
-    match answer {
-        trim::Answer::Counts {
-            changed,
-            spared,
-            clipped,
-            missing,
-            risen,
-            fallen,
-        } => {
-            if !agree(to, changed, risen, fallen) {
-                return CONTRADICTORY;
-            }
-            if spared == 0 && clipped == 0 && missing == 0 {
-                return PLAIN;
-            }
-            if spared == 1 && clipped == 0 && missing == 0 {
-                return SPARED;
-            }
-            if spared == 0 && clipped == 1 && missing == 0 {
-                return CLIPPED;
-            }
-            if spared == 0 && clipped == 0 && missing == 1 {
-                return MISSING;
-            }
-            CONTRADICTORY
-        }
-        trim::Answer::Refused(_) => REFUSED,
+fn fate_of(answer: Result<Counts, Refusal>, to: Way) -> Fate {
+    let Ok(counts) = answer else {
+        return Fate::Refused;
+    };
+    if !to.agrees(counts) {
+        return Fate::Contradictory;
+    }
+    match (counts.spared, counts.clipped, counts.missing) {
+        (0, 0, 0) => Fate::Plain,
+        (1, 0, 0) => Fate::Spared,
+        (0, 1, 0) => Fate::Clipped,
+        (0, 0, 1) => Fate::Missing,
+        _ => Fate::Contradictory,
     }
 }
 
 // The columns of a case about one single: what was given, what was expected, what came.
-fn columns(out: &impl Print, at: usize, x: u32, mark: u32, expected: u32, got: u32) -> usize {
-    let at = single_at(out, at, 44, x);
-    let at = single_at(out, at, 54, mark);
-    let at = single_at(out, at, 64, expected);
-    fill(out, single_at(out, at, 74, got), 84)
+fn columns(out: &mut Printer<'_, impl Print>, x: u32, mark: u32, expected: u32, got: u32) {
+    out.pattern_at(44, x);
+    out.pattern_at(54, mark);
+    out.pattern_at(64, expected);
+    out.pattern_at(74, got);
+    out.fill(84);
 }
 
 // One single: an array of one, and the loader's call at turn 0, which must agree with it.
-pub fn one_single(out: &impl Print, row: &[u8]) -> bool {
-    let by = method(row, 2);
-    let setting = signed(row, 3);
-    let x = single(row, 4);
-    let missing = mark(row, 5);
-    let expected = single(row, 6);
+pub fn one_single(out: &mut Printer<'_, impl Print>, row: Row<'_>) -> bool {
+    let call = row.call(2);
+    let x = row.single(4);
+    let missing = row.mark(5);
+    let expected = row.single(6);
     let mut readings = [x];
-    let answer = trim::trim_singles(&mut readings, by, setting, missing);
+    let answer = trim_singles(&mut readings, call.method, call.setting, missing);
     let got = readings[0];
-    let to = went(x >= 0x8000_0000, got == x, got > x);
-    let got_fate = fate_of(answer, to);
-    let loaded = trim::trim_single(x, by, setting, missing, 0);
-    let at = columns(out, start_call(out, row), x, missing, expected, got);
-    let told = loaded % 4294967296 == expected as u64 && loaded / 4294967296 == gain(to);
-    let ok = got == expected && told && got_fate == fate(row, 7);
-    judge_fate(out, row, at, ok, got_fate)
+    let to = Way::of(x >= 0x8000_0000, got.cmp(&x));
+    let fate = fate_of(answer, to);
+    let loaded = trim::trim_single(x, call.method, call.setting, missing, 0);
+    out.start_call(row, call);
+    columns(out, x, missing, expected, got);
+    let is_told = loaded % 4294967296 == expected as u64 && loaded / 4294967296 == to.gain();
+    let ok = got == expected && is_told && fate == row.fate(7);
+    out.judge_fate(row, ok, fate)
 }
 
 // One single through two calls, the second on what the first left.
-pub fn twice(out: &impl Print, row: &[u8]) -> bool {
-    let second = method(row, 8);
-    let setting = signed(row, 9);
-    let x = single(row, 4);
-    let missing = mark(row, 5);
-    let expected = single(row, 6);
+pub fn twice(out: &mut Printer<'_, impl Print>, row: Row<'_>) -> bool {
+    let call = row.call(2);
+    let second = row.call(8);
+    let x = row.single(4);
+    let missing = row.mark(5);
+    let expected = row.single(6);
     let mut readings = [x];
-    let before = trim::trim_singles(&mut readings, method(row, 2), signed(row, 3), missing);
-    let answer = trim::trim_singles(&mut readings, second, setting, missing);
+    let before = trim_singles(&mut readings, call.method, call.setting, missing);
+    let answer = trim_singles(&mut readings, second.method, second.setting, missing);
     let got = readings[0];
-    let at = put_text(out, start_call(out, row), b", ");
-    let at = columns(
-        out,
-        put_call(out, at, second, setting),
-        x,
-        missing,
-        expected,
-        got,
-    );
-    judge_accepted(
-        out,
-        row,
-        at,
-        got == expected,
-        is_refused(before) || is_refused(answer),
-    )
+    out.start_call(row, call);
+    out.put(", ");
+    out.put(second);
+    columns(out, x, missing, expected, got);
+    out.judge_accepted(row, before.and(answer).map(|_| got == expected))
 }
 
 // A paper's row about pi, with its bits as they are printed there.
-pub fn paper(out: &impl Print, row: &[u8]) -> bool {
-    let expected = bits(row, 4);
+pub fn paper(out: &mut Printer<'_, impl Print>, row: Row<'_>) -> bool {
+    let call = row.call(2);
+    let expected = row.bits(4);
     let mut readings = [PI];
-    let answer = trim::trim_singles(&mut readings, method(row, 2), signed(row, 3), MARK);
+    let answer = trim_singles(&mut readings, call.method, call.setting, MARK);
     let got = readings[0];
-    let at = fill(out, start_call(out, row), 36);
-    let at = put_text(out, at, field(row, 4));
-    let at = single_at(out, at, 72, expected);
-    let at = single_at(out, at, 82, got);
-    judge_accepted(
-        out,
-        row,
-        fill(out, at, 92),
-        got == expected,
-        is_refused(answer),
-    )
+    out.start_call(row, call);
+    out.fill(36);
+    out.put_bytes(row.field(4));
+    out.pattern_at(72, expected);
+    out.pattern_at(82, got);
+    out.fill(92);
+    out.judge_accepted(row, answer.map(|_| got == expected))
 }
 
 // The loader's call at any turn; its answer is a 64-bit number.
-pub fn loader(out: &impl Print, row: &[u8]) -> bool {
-    let x = single(row, 4);
-    let turn = hex(row, 5);
-    let expected = hex(row, 6);
-    let got = trim::trim_single(x, method(row, 2), signed(row, 3), MARK, turn);
-    let at = put_text(out, start_call(out, row), b" at ");
-    let at = single_at(out, put_number(out, at, turn), 56, x);
-    let at = double_at(out, at, 66, expected);
-    let at = double_at(out, at, 84, got);
-    judge(out, row, fill(out, at, 102), got == expected)
+pub fn loader(out: &mut Printer<'_, impl Print>, row: Row<'_>) -> bool {
+    let call = row.call(2);
+    let x = row.single(4);
+    let turn = row.hex(5);
+    let expected = row.hex(6);
+    let got = trim::trim_single(x, call.method, call.setting, MARK, turn);
+    out.start_call(row, call);
+    out.put(format_args!(" at {turn}"));
+    out.pattern_at(56, x);
+    out.pattern_at(66, expected);
+    out.pattern_at(84, got);
+    out.fill(102);
+    out.judge(row, got == expected)
 }
 
 // One double, with a NaN for the mark.
-pub fn double(out: &impl Print, row: &[u8]) -> bool {
-    let x = hex(row, 4);
-    let expected = hex(row, 6);
+pub fn double(out: &mut Printer<'_, impl Print>, row: Row<'_>) -> bool {
+    let call = row.call(2);
+    let x = row.hex(4);
+    let expected = row.hex(6);
     let mut readings = [x];
-    let answer = trim::trim_doubles(&mut readings, method(row, 2), signed(row, 3), MARK_DOUBLE);
+    let answer = trim_doubles(&mut readings, call.method, call.setting, MARK_DOUBLE);
     let got = readings[0];
-    let got_fate = fate_of(answer, went(x >= 0x8000_0000_0000_0000, got == x, got > x));
-    let at = double_at(out, start_call(out, row), 38, x);
-    let at = double_at(out, at, 56, expected);
-    let at = double_at(out, at, 74, got);
-    let ok = got == expected && got_fate == fate(row, 7);
-    judge_fate(out, row, fill(out, at, 92), ok, got_fate)
+    let fate = fate_of(answer, Way::of(x >= 0x8000_0000_0000_0000, got.cmp(&x)));
+    out.start_call(row, call);
+    out.pattern_at(38, x);
+    out.pattern_at(56, expected);
+    out.pattern_at(74, got);
+    out.fill(92);
+    out.judge_fate(row, got == expected && fate == row.fate(7), fate)
 }
 
-pub fn number_of(answer: trim::Answer) -> u32 {
-    match answer {
-        trim::Answer::Counts {
-            changed: _,
-            spared: _,
-            clipped: _,
-            missing: _,
-            risen: _,
-            fallen: _,
-        } => 0,
-        trim::Answer::Refused(n) => n,
-    }
-}
-
-pub fn is_refused(answer: trim::Answer) -> bool {
-    number_of(answer) != 0
-}
-
-// A trim's questions, put to an array of one single and to the loader's call: the refusal's number, or 0 for an accepted call. Refused, the reading stays.
-pub fn asked(out: &impl Print, row: &[u8]) -> bool {
-    let by = method(row, 2);
-    let setting = signed(row, 3);
-    let expected = refusal(row, 6);
+// A trim's questions, put to an array of one single and to the loader's call. Refused, the reading stays.
+pub fn asked(out: &mut Printer<'_, impl Print>, row: Row<'_>) -> bool {
+    let call = row.call(2);
+    let expected = row.refusal(6);
     let mut readings = [PI];
-    let answer = trim::trim_singles(&mut readings, by, setting, MARK);
-    let loaded = trim::trim_single(PI, by, setting, MARK, 0);
-    let at = put_text(out, start_call(out, row), b", singles");
-    let above = loaded / 4294967296;
-    let ok = expected == 0 && (above == 0 || above == 2 || above == 4)
-        || readings[0] == PI && loaded == 4294967296 + expected as u64;
-    answered(out, row, at, expected, number_of(answer), ok)
+    let answer = trim_singles(&mut readings, call.method, call.setting, MARK);
+    let loaded = trim::trim_single(PI, call.method, call.setting, MARK, 0);
+    let ok = match expected {
+        None => matches!(loaded / 4294967296, 0 | 2 | 4),
+        Some(number) => readings[0] == PI && loaded == 4294967296 + number as u64,
+    };
+    out.start_call(row, call);
+    out.put(", singles");
+    out.answered(row, expected, number_of(answer), ok)
 }
 
 // The same for doubles.
-pub fn asked_double(out: &impl Print, row: &[u8]) -> bool {
-    let expected = refusal(row, 6);
+pub fn asked_double(out: &mut Printer<'_, impl Print>, row: Row<'_>) -> bool {
+    let call = row.call(2);
+    let expected = row.refusal(6);
     let mut readings = [PI_DOUBLE];
-    let answer = trim::trim_doubles(&mut readings, method(row, 2), signed(row, 3), MARK_DOUBLE);
-    let at = put_text(out, start_call(out, row), b", doubles");
-    let ok = expected == 0 || readings[0] == PI_DOUBLE;
-    answered(out, row, at, expected, number_of(answer), ok)
+    let answer = trim_doubles(&mut readings, call.method, call.setting, MARK_DOUBLE);
+    let ok = expected.is_none() || readings[0] == PI_DOUBLE;
+    out.start_call(row, call);
+    out.put(", doubles");
+    out.answered(row, expected, number_of(answer), ok)
 }
 
-pub fn same_singles(a: [u32; 4], b: [u32; 4]) -> bool {
-    a[0] == b[0] && a[1] == b[1] && a[2] == b[2] && a[3] == b[3]
-}
-
-// What an array holds after a call, and whether the call was refused.
-#[derive(Clone, Copy)]
-pub struct AfterCall {
-    pub readings: [u32; 4],
-    pub refused: bool,
-}
-
-// The readings with the first n of them trimmed as one array.
-fn trimmed(readings: [u32; 4], n: usize, by: u32, setting: i32, missing: u32) -> AfterCall
-    requires { n ≤ 4 }
-{
-    let mut left = readings;
-    let answer = trim::trim_singles(&mut left[..n], by, setting, missing);
-    AfterCall {
-        readings: left,
-        refused: is_refused(answer),
-    }
+// A refusal's number, where a call got one.
+pub fn number_of<T: Drop>(answer: Result<T, Refusal>) -> Option<u32> {
+    answer.err().map(|refusal| refusal.number())
 }
 
 // Up to four singles as one array.
-pub fn array(out: &impl Print, row: &[u8]) -> bool {
-    let readings = singles(row, 4);
-    let n = count(row, 4);
-    let missing = mark(row, 5);
-    let expected = singles(row, 6);
-    let by = method(row, 2);
-    let setting = signed(row, 3);
-    let got = trimmed(readings, n, by, setting, missing);
-    let left = got.readings;
-    let at = put_singles(out, start_list(out, row), readings, n);
-    let at = put_text(
-        out,
-        put_call(out, put_text(out, at, b" "), by, setting),
-        b", mark",
-    );
-    single_at(out, at, 0, missing);
-    end(out);
-    put_singles(out, expecting(out), expected, n);
-    end(out);
-    let at = put_text(out, put_singles(out, getting(out), left, n), b" ");
-    judge_accepted(out, row, at, same_singles(left, expected), got.refused)
+pub fn array(out: &mut Printer<'_, impl Print>, row: Row<'_>) -> bool {
+    let call = row.call(2);
+    let readings = row.singles(4);
+    let missing = row.mark(5);
+    let expected = row.singles(6);
+    let mut left = row.singles(4);
+    let answer = trim_singles(left.as_mut_slice(), call.method, call.setting, missing);
+    out.start_list(row);
+    out.patterns(readings.as_slice());
+    out.put(format_args!(" {call}, mark"));
+    out.pattern_at(0, missing);
+    out.expecting();
+    out.patterns(expected.as_slice());
+    out.getting();
+    out.patterns(left.as_slice());
+    out.put(" ");
+    out.judge_accepted(row, answer.map(|_| left == expected))
 }

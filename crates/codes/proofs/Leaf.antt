@@ -2,6 +2,9 @@
 use Rattle.std.proofs.Common.{◌≡◌, ℕ, zero, suc, ◌+◌, ◌-◌, ◌*◌, ◌/◌, ◌%◌, ◌^◌, ◌<◌, ◌≤◌, min, ◌≢◌, sym, refl, ap, ◌∙◌, ap₂, mul-le-mul_right, mod-lt, mod-eq_of_lt, mul_assoc, mul-lt-mul_of_pos_right, div-add-mod', zero-mul, div-le_self, div-mul-le_self, mul-div_cancel, arith, lit<, pow_pos, pow_mono, eq-eqb, ne_eqb}
 use native.Mathlib.Nat.{mul-div-mul_right, mul-mod_left, div-eq_of_lt, mul-add-mod_self_right}
 use native.Mathlib.Decide.{dec_le, ℕ_discrete}
+use mathlib.Core.Bool.{Bool, true, false, not, cond}
+use mir.Val.{bool_byte}
+use lib.Dec.{eqb}
 use lib.Arith.{digits_mod}
 use Rattle.meaning.specs.Readings.{spacing_exp, size, sign, magnitude}
 use Rattle.meaning.proofs.Sizes.{Form, form, size_form}
@@ -30,6 +33,15 @@ flag_same a b h = rw (eq-eqb a b h) refl
 pub flag_other : (a b : ℕ) → a ≢ b → flag_of a b ≡ 1
 unfolding flag_of
 flag_other a b h = rw (ne_eqb a b h) refl
+
+-- a flag as the code makes it
+pub flag_not : (a b : ℕ) → bool_byte (not (eqb a b)) ≡ flag_of a b
+unfolding flag_of
+flag_not a b = go (eqb a b)
+  where
+    go : (same : Bool) → bool_byte (not same) ≡ cond same 0 1
+    go true = refl
+    go false = refl
 
 flag_iff : (p q a b : ℕ) → (p ≡ q → a ≡ b) → (a ≡ b → p ≡ q) → flag_of p q ≡ flag_of a b
 flag_iff p q a b f g = go (ℕ_discrete p q)
@@ -135,30 +147,17 @@ reading_pos w s h =
     let z : w / 2 ^ 31 ≡ 0 = div-eq_of_lt h in
     ap (λ (x : ℕ). cut_of x (2 * size 23 (magnitude 23 8 w)) (2 ^ s)) (sym z)
 
--- two wrapping subtractions, of a word w and of a flag l
-neg_word : (M z t w l : ℕ) → z < M → t < M → w < M → l ≤ 1 → 2 ≤ M → (t + w) % M ≡ 0 → (z + l) % M ≡ t → z ≡ (2 * M - w - l) % M
-neg_word M z t w l a b c d p e f = go ((z + l) / M) ((t + w) / M) i_is j_is
+-- the opposite t of a word w, less a flag l, in words below M
+neg_word : (M t w l : ℕ) → t < M → w < M → l ≤ 1 → 2 ≤ M → (t + w) % M ≡ 0 → (t + (M - l)) % M ≡ (2 * M - w - l) % M
+neg_word M t w l b c d p e = go ((t + w) / M) (ap (λ (y : ℕ). (t + w) / M * M + y) (sym e) ∙ div-add-mod' (t + w) M)
   where
-    i_is : (z + l) / M * M + t ≡ z + l
-    i_is = ap (λ (y : ℕ). (z + l) / M * M + y) (sym f) ∙ div-add-mod' (z + l) M
-
-    j_is : (t + w) / M * M + 0 ≡ t + w
-    j_is = ap (λ (y : ℕ). (t + w) / M * M + y) (sym e) ∙ div-add-mod' (t + w) M
-
-    done : (k : ℕ) → k * M + z ≡ 2 * M - w - l → z ≡ (2 * M - w - l) % M
-    done k y = sym (mod-eq_of_lt a) ∙ sym (mul-add-mod_self_right k M z) ∙ ap (λ (x : ℕ). x % M) y
-
-    over : (k : ℕ) → 2 * M ≤ suc (suc k) * M
-    over k = mul-le-mul_right {m = 2} {n = suc (suc k)} M (omega arith)
-
-    go : (i j : ℕ) → i * M + t ≡ z + l → j * M + 0 ≡ t + w → z ≡ (2 * M - w - l) % M
-    go zero zero x y = done 2 (omega arith)
-    go zero (suc zero) x y = done 1 (omega arith)
-    go (suc zero) zero x y = done 1 (omega arith)
-    go (suc zero) (suc zero) x y = done 0 (omega arith)
-    go (suc (suc i)) j x y = absurd (omega (arith, over i))
-    go zero (suc (suc j)) x y = absurd (omega (arith, over j))
-    go (suc zero) (suc (suc j)) x y = absurd (omega (arith, over j))
+    go : (q : ℕ) → q * M + 0 ≡ t + w → (t + (M - l)) % M ≡ (2 * M - w - l) % M
+    go zero x =
+        let a : t + (M - l) ≡ M - l = omega arith in
+        let b : 2 * M - w - l ≡ 1 * M + (M - l) = omega arith in
+        rw (a, b) (sym (mul-add-mod_self_right 1 M (M - l)))
+    go (suc zero) x = ap (λ (y : ℕ). y % M) (omega arith)
+    go (suc (suc q)) x = absurd (omega (arith, mul-le-mul_right {m = 2} {n = suc (suc q)} M (omega arith)))
 
 pub lost_small : (t g : ℕ) → lost_of t g ≤ 1
 unfolding lost_of
@@ -168,11 +167,11 @@ lost_small t g = go (ℕ_discrete (t % g) 0)
     go (yes h) = rw (flag_same (t % g) 0 h) (omega arith)
     go (no h) = rw (flag_other (t % g) 0 h) (omega arith)
 
-pub reading_neg : (w s z t : ℕ) (c : Cut) → 2147483648 ≤ w → w < 4294967296 → z < 2 ^ 64 → t < 2 ^ 64 → c ≡ cut_of 0 (2 * size 23 (magnitude 23 8 w)) (2 ^ s)
-    → (t + c.word) % 2 ^ 64 ≡ 0 → (z + c.lost) % 2 ^ 64 ≡ t → make z c.lost ≡ reading_of w s
+pub reading_neg : (w s t : ℕ) (c : Cut) → 2147483648 ≤ w → w < 4294967296 → t < 2 ^ 64 → c ≡ cut_of 0 (2 * size 23 (magnitude 23 8 w)) (2 ^ s)
+    → (t + c.word) % 2 ^ 64 ≡ 0 → make ((t + (2 ^ 64 - c.lost)) % 2 ^ 64) c.lost ≡ reading_of w s
 unfolding reading_of cut_of make sign
-reading_neg w s z t c a b zl tl e f h =
-    ap₂ make (ap (λ (x : ℕ). x) nw ∙ ap (λ (x : ℕ). (2 * 2 ^ 64 - x - lost_of T g) % 2 ^ 64) refl ∙ sym (word_neg (w / 2 ^ 31) T g (omega arith))) lost
+reading_neg w s t c a b tl e f =
+    ap₂ make (nw ∙ sym (word_neg (w / 2 ^ 31) T g (omega arith))) lost
   where
     T : ℕ
     T = 2 * size 23 (magnitude 23 8 w)
@@ -186,14 +185,8 @@ reading_neg w s z t c a b zl tl e f h =
     lost : c.lost ≡ lost_of T g
     lost = ap (λ (x : Cut). x.lost) e
 
-    f' : (t + T / g % 2 ^ 64) % 2 ^ 64 ≡ 0
-    f' = ap (λ (x : ℕ). (t + x) % 2 ^ 64) (sym word) ∙ f
-
-    h' : (z + lost_of T g) % 2 ^ 64 ≡ t
-    h' = ap (λ (x : ℕ). (z + x) % 2 ^ 64) (sym lost) ∙ h
-
-    nw : z ≡ (2 * 2 ^ 64 - T / g % 2 ^ 64 - lost_of T g) % 2 ^ 64
-    nw = neg_word (2 ^ 64) z t (T / g % 2 ^ 64) (lost_of T g) zl tl (mod-lt (T / g) (lit< tt)) (lost_small T g) (omega arith) f' h'
+    nw : (t + (2 ^ 64 - c.lost)) % 2 ^ 64 ≡ (2 * 2 ^ 64 - T / g % 2 ^ 64 - lost_of T g) % 2 ^ 64
+    nw = rw (← lost, ← word) (neg_word (2 ^ 64) t c.word c.lost tl (rw word (mod-lt (T / g) (lit< tt))) (rw lost (lost_small T g)) (omega arith) f)
 
 pub bump_small : (d k l : ℕ) → bump d k l ≤ 1
 unfolding bump

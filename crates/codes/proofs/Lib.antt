@@ -1,3 +1,4 @@
+pub mod Each
 pub mod Sum
 pub mod Leaf
 pub mod Reading

@@ -1,8 +1,9 @@
 -- The code of a reading from two cut words.
-use Rattle.std.proofs.Common.{◌≡◌, ℕ, suc, ◌+◌, ◌-◌, ◌*◌, ◌/◌, ◌%◌, ◌^◌, ◌<◌, ◌≤◌, eqb, leb, ◌≢◌, ◌⊎◌, sym, refl, ap, ◌∙◌, ap₂, inl, inr, mul-le-mul_right, mod-lt, mul_assoc, div-lt_iff_lt-mul, mul-le-mul_left, mul-lt-mul_of_pos_right, div-add-mod', arith, lit<, pow_pos, pow_mono, pow-add, eq-eqb, ne_eqb, le-leb}
-use native.Mathlib.Nat.{mul-mod_left}
-use native.Mathlib.Decide.{dec_le, ℕ_discrete}
-use borrow.Author.Tests.{lt-leb}
+use Rattle.std.proofs.Common.{◌≡◌, ℕ, suc, ◌+◌, ◌-◌, ◌*◌, ◌/◌, ◌%◌, ◌^◌, ◌<◌, ◌≤◌, eqb, ltb, leb, ◌≢◌, ◌⊎◌, sym, refl, ap, ◌∙◌, inl, inr, mul-le-mul_right, mod-lt, mul_assoc, div-lt_iff_lt-mul, mul-le-mul_left, mul-lt-mul_of_pos_right, div-add-mod', arith, lit<, pow_pos, pow_mono, pow-add, eq-eqb, ne_eqb, le-leb}
+use mathlib.Core.Bool.{true}
+use native.Mathlib.Nat.{mul-mod_left, le_of_lt}
+use native.Mathlib.Decide.{dec_lt, dec_le, ℕ_discrete}
+use borrow.Author.Tests.{lt-ltb, le-ltb, lt-leb}
 use Rattle.meaning.specs.Readings.{spacing_exp, size, sign, magnitude, pattern, infinity, origin, position}
 use Rattle.meaning.specs.Methods.{nearest}
 use Rattle.meaning.specs.Layers.{missing_code, code}
@@ -12,7 +13,8 @@ use Rattle.meaning.proofs.Powers.{pow_split}
 use Rattle.meaning.proofs.Nearest.{nearest_scale}
 use Rattle.codes.specs.declared.Cut.{Cut}
 use Rattle.codes.specs.declared.Base.{Base}
-use Rattle.codes.specs.Cut.{lost_of, word_of, cut_of, reading_of, round_word, opposed, base_of, layer_by, code_by, CanCode}
+use Rattle.codes.specs.declared.Span.{Span}
+use Rattle.codes.specs.Cut.{lost_of, word_of, cut_of, reading_of, round_word, opposed, layer_by, code_by, CanCode}
 use Rattle.codes.proofs.Leaf.{lost_small}
 use Rattle.codes.proofs.Sum.{lift, lift_pos, lift_neg, lost_none, code_cut, sum_word}
 
@@ -255,6 +257,13 @@ test_even T w r e d l t h = go (ℕ_discrete l 0)
     go (yes z) = eq-eqb l 0 z ∙ sym (le-leb (position 23 8 w - position 23 8 r) (T * 2 ^ e) (t.kept h z))
     go (no z) = ne_eqb l 0 z ∙ sym (lt-leb (position 23 8 w - position 23 8 r) (T * 2 ^ e) (t.lost h z))
 
+pub test_order : (T w r e d l : ℕ) → Test T w r e d l → d ≢ T * 2 ^ (e + 1 - (e - 39)) → ltb d (T * 2 ^ (e + 1 - (e - 39))) ≡ leb (position 23 8 w - position 23 8 r) (T * 2 ^ e)
+test_order T w r e d l t h = go (dec_lt d (T * 2 ^ (e + 1 - (e - 39))))
+  where
+    go : Dec (d < T * 2 ^ (e + 1 - (e - 39))) → ltb d (T * 2 ^ (e + 1 - (e - 39))) ≡ leb (position 23 8 w - position 23 8 r) (T * 2 ^ e)
+    go (yes z) = lt-ltb d (T * 2 ^ (e + 1 - (e - 39))) z ∙ sym (le-leb (position 23 8 w - position 23 8 r) (T * 2 ^ e) (t.under z))
+    go (no z) = le-ltb d (T * 2 ^ (e + 1 - (e - 39))) (omega arith) ∙ sym (lt-leb (position 23 8 w - position 23 8 r) (T * 2 ^ e) (t.over (omega arith)))
+
 pub sign_small : (r : ℕ) → r < 4294967296 → sign 23 8 r ≤ 1
 unfolding sign
 sign_small r h = omega arith
@@ -265,52 +274,47 @@ reading_lost w s c e = rw e (lost_small (2 * size 23 (magnitude 23 8 w)) (2 ^ s)
 
 -- ---- the layer's part, done once
 
-unfoldable pub make_base : ℕ → ℕ → ℕ → ℕ → Base
-make_base r e x l = record { reference = r; exponent = e; word = x; lost = l }
+pub opposed_magnitude : (r : ℕ) → magnitude 23 8 r < infinity 23 8 → magnitude 23 8 (opposed r) ≡ magnitude 23 8 r
+unfolding opposed
+opposed_magnitude r f = magnitude_pattern 23 8 (1 - sign 23 8 r) (magnitude 23 8 r) f
 
-pub base_law : (r e t o : ℕ) (b : Cut) → t ≡ e - 39 → o ≡ pattern 23 8 (1 - sign 23 8 r) (magnitude 23 8 r) → b ≡ reading_of o t → make_base r e b.word b.lost ≡ base_of r e
-unfolding make_base base_of opposed
-base_law r e t o b ti oi bi = ap (λ (c : Cut). make_base r e c.word c.lost) (bi ∙ ap₂ reading_of oi ti)
+pub base_lost : (b : Base) → b.opposite.lost ≤ 1
+base_lost b = omega (arith, b.opposite_lost, reading_lost (opposed b.reference) (b.exponent - 39) _ refl)
 
-pub base_lost : (b : Base) → b ≡ base_of b.reference b.exponent → b.lost ≤ 1
-unfolding base_of opposed
-base_lost b h =
-    let e : b.lost ≡ (reading_of (pattern 23 8 (1 - sign 23 8 b.reference) (magnitude 23 8 b.reference)) (b.exponent - 39)).lost = ap (λ (x : Base). x.lost) h in
-    omega (arith, reading_lost (pattern 23 8 (1 - sign 23 8 b.reference) (magnitude 23 8 b.reference)) (b.exponent - 39) _ refl)
-
-pub with_law : (w : ℕ) (b : Base) (t d c : ℕ) (x : Cut) → b ≡ base_of b.reference b.exponent → sign 23 8 b.reference ≤ 1 → magnitude 23 8 w < infinity 23 8
-    → magnitude 23 8 b.reference < infinity 23 8 → position 23 8 b.reference ≤ position 23 8 w → position 23 8 w - position 23 8 b.reference ≤ 65534 * 2 ^ b.exponent
-    → t ≡ b.exponent - 39 → x ≡ reading_of w t → d ≡ (x.word + b.word) % 2 ^ 64 → c ≡ round_word d (b.exponent + 1 - t) (x.lost + b.lost)
+pub with_law : (w : ℕ) (b : Base) (t d c : ℕ) (x : Cut) → sign 23 8 b.reference ≤ 1 → CanCode w b.reference b.exponent
+    → t ≡ b.exponent - 39 → x ≡ reading_of w t → d ≡ (x.word + b.opposite.word) % 2 ^ 64 → c ≡ round_word d (b.exponent + 1 - t) (x.lost + b.opposite.lost)
     → c ≡ nearest (position 23 8 w - position 23 8 b.reference) (2 ^ b.exponent)
-unfolding base_of opposed
-with_law w b t d c x bi rs fw fr le holds ti xi di ci =
-    code_law w b.reference rs fw fr le b.exponent holds t d c x y ti xi (ap (λ (z : ℕ). reading_of o z) (sym ti)) (di ∙ ap (λ (z : ℕ). (x.word + z) % 2 ^ 64) word)
-    (ci ∙ ap (λ (z : ℕ). round_word d (b.exponent + 1 - t) (x.lost + z)) lost)
+unfolding opposed
+with_law w b t d c x rs can ti xi di ci =
+    code_law w b.reference rs can.finite b.reference_finite can.above b.exponent can.holds t d c x y ti xi (ap (λ (z : ℕ). reading_of (opposed b.reference) z) (sym ti))
+    (di ∙ ap (λ (z : ℕ). (x.word + z) % 2 ^ 64) b.opposite_word) (ci ∙ ap (λ (z : ℕ). round_word d (b.exponent + 1 - t) (x.lost + z)) b.opposite_lost)
   where
-    o : ℕ
-    o = pattern 23 8 (1 - sign 23 8 b.reference) (magnitude 23 8 b.reference)
-
     y : Cut
-    y = reading_of o (b.exponent - 39)
+    y = reading_of (opposed b.reference) (b.exponent - 39)
 
-    word : b.word ≡ y.word
-    word = ap (λ (z : Base). z.word) bi
-
-    lost : b.lost ≡ y.lost
-    lost = ap (λ (z : Base). z.lost) bi
-
--- the clauses of `code_or_mark`, from what a layer gives
-pub marked : (w mark r e : ℕ) (b : Base) → b ≡ base_of r e → magnitude 23 8 r < infinity 23 8 → e ≤ 277 → (w ≢ mark → CanCode w r e)
-    → (b ≡ base_of b.reference b.exponent)
-    × ((magnitude 23 8 b.reference < infinity 23 8) × ((b.exponent ≤ 277) × (w ≢ mark → CanCode w b.reference b.exponent)))
-unfolding base_of
-marked w mark r e b h fr le c = rw h (refl, (fr, (le, c)))
-
-pub based : (m w mark r e : ℕ) (b : Base) → b ≡ base_of r e → code_by m mark b.reference b.exponent w ≡ code_by m mark r e w
-unfolding base_of
-based m w mark r e b h = ap (λ (x : Base). code_by m mark x.reference x.exponent w) h
-
--- the definition's code is that of its missing code
-pub by_width : (b m mark r e w : ℕ) → m ≡ missing_code b → code_by m mark r e w ≡ code 23 8 mark (layer_by b r e) w
+-- the definition's code, from the missing code of the layer's width and a base of its reference and exponent
+pub by_layer : (b m mark r e q f w c : ℕ) → c ≡ code_by m mark q f w → m ≡ missing_code b → q ≡ r → f ≡ e → c ≡ code 23 8 mark (layer_by b r e) w
 unfolding code
-by_width b m mark r e w h = ap (λ (x : ℕ). code_by x mark r e w) h
+by_layer b m mark r e q f w c is h i j = is ∙ rw (h, i, j) refl
+
+-- ---- the test of a span
+
+-- what the two comparisons with the top of the steps say
+pub span_test : (v : Span) (T e t top d : ℕ) (x y : Cut) → sign 23 8 v.low ≤ 1 → 1 ≤ T → (position 23 8 v.high - position 23 8 v.low) * 2 / 2 ^ (e - 39) < 2 ^ 60
+    → t ≡ e - 39 → x ≡ reading_of v.high t → y ≡ reading_of (opposed v.low) t → d ≡ (x.word + y.word) % 2 ^ 64 → top ≡ T * 2 ^ (e + 1 - t) → x.lost + y.lost ≢ 2
+    → (d ≡ top → eqb (x.lost + y.lost) 0 ≡ leb (position 23 8 v.high - position 23 8 v.low) (T * 2 ^ e)) × (d ≢ top → ltb d top ≡ leb (position 23 8 v.high - position 23 8 v.low) (T * 2 ^ e))
+unfolding opposed
+span_test v T e t top d x y rs one small ti xi yi di pi h = (λ z. test_even T v.high v.low e d _ law (z ∙ top_is), λ z. rw top_is (test_order T v.high v.low e d _ law (rw top_is at z)))
+  where
+    law : Test T v.high v.low e d (x.lost + y.lost)
+    law = test_law v.high v.low rs v.high_finite v.low_finite (le_of_lt v.order) T one e small t x y ti xi yi d di h
+
+    top_is : top ≡ T * 2 ^ (e + 1 - (e - 39))
+    top_is = pi ∙ ap (λ (z : ℕ). T * 2 ^ (e + 1 - z)) ti
+
+-- both lost something
+pub span_both : (v : Span) (T e t : ℕ) (x y : Cut) → sign 23 8 v.low ≤ 1 → 1 ≤ T → (position 23 8 v.high - position 23 8 v.low) * 2 / 2 ^ (e - 39) < 2 ^ 60
+    → t ≡ e - 39 → x ≡ reading_of v.high t → y ≡ reading_of (opposed v.low) t → x.lost + y.lost ≡ 2 → leb (position 23 8 v.high - position 23 8 v.low) (T * 2 ^ e) ≡ true
+unfolding opposed
+span_both v T e t x y rs one small ti xi yi h =
+    le-leb _ _ (both_law v.high v.low rs v.high_finite v.low_finite (le_of_lt v.order) T one e small t x y ti xi yi h)

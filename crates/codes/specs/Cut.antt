@@ -4,7 +4,6 @@ use Rattle.meaning.specs.Readings.{magnitude, sign, pattern, size, infinity, pos
 use Rattle.meaning.specs.Methods.{nearest}
 use Rattle.meaning.specs.Layers.{Layer}
 use Rattle.codes.specs.declared.Cut.{Cut}
-use Rattle.codes.specs.declared.Base.{Base}
 
 -- the layer of a width, a reference's pattern and an exponent counted from -149
 abbrev pub layer_by : ℕ → ℕ → ℕ → Layer
@@ -40,12 +39,9 @@ bump d k lost = cond (lost == 0) (d / 2 ^ k % 2) 1
 unfoldable pub round_word : ℕ → ℕ → ℕ → ℕ
 round_word d k lost = (d + (2 ^ (k - 1) - 1 + bump d k lost)) % 2 ^ 64 / 2 ^ k
 
--- the opposite of a reference r, and what the codes of its layer share
+-- the opposite of a reference r, whose cut the codes of its layer share
 unfoldable pub opposed : ℕ → ℕ
 opposed r = pattern 23 8 (1 - sign 23 8 r) (magnitude 23 8 r)
-
-unfoldable pub base_of : ℕ → ℕ → Base
-base_of r e = let c = reading_of (opposed r) (e - 39) in record { reference = r; exponent = e; word = c.word; lost = c.lost }
 
 pub record CanCode (w r e : ℕ) : Type 0 where
   pub finite : magnitude 23 8 w < infinity 23 8

@@ -2,13 +2,36 @@
 // the call open to users is packing's.
 #![tactic(auto)]
 
-ghost use Rattle.std.specs.Prelude.{◌≡◌, ◌+◌, ◌-◌, ◌*◌, ◌/◌, ◌^◌, ◌<◌, ◌≤◌, min, max, ◌≢◌, map, length, nat_le};
+ghost use Rattle.std.specs.Prelude.{◌≡◌, ◌+◌, ◌-◌, ◌*◌, ◌/◌, ◌%◌, ◌^◌, ◌<◌, ◌≤◌, ◌≢◌, map, length, nat_le, slice_index, EachIndex};
 ghost use Rattle.meaning.specs.Readings.{magnitude, sign, pattern, infinity, spacing_exp, size, position};
 ghost use Rattle.meaning.specs.Methods.{nearest};
 ghost use Rattle.meaning.specs.Layers.{least_from, code};
-ghost use Rattle.codes.specs.Cut.{AllReady, CanCode, cut_of, reading_of, base_of, bump, round_word, flag_of, layer_by, code_by};
+ghost use Rattle.codes.specs.Cut.{AllReady, CanCode, cut_of, reading_of, opposed, bump, round_word, layer_by, code_by};
 
-// A signed size in whole units, rounded down, modulo 2^64, and whether something was lost.
+// The smallest and the largest value of a layer, finite and different.
+#[derive(Clone, Copy)]
+pub struct Span {
+    pub low: u32,
+    pub high: u32,
+    pub ghost low_finite: { magnitude 23 8 low < infinity 23 8 },
+    pub ghost high_finite: { magnitude 23 8 high < infinity 23 8 },
+    pub ghost order: { position 23 8 low < position 23 8 high },
+}
+
+// What a layer's codes go by: its reference, the exponent of its step counted from least spacings, and its width. The reference isn't so large beside the step that
+// words of 64 bits can't hold its steps.
+#[derive(Clone, Copy)]
+pub struct LayerStep {
+    pub reference: u32,
+    pub exponent: u32,
+    pub width: u32,
+    pub ghost reference_finite: { magnitude 23 8 reference < infinity 23 8 },
+    pub ghost reference_small: { size 23 (magnitude 23 8 reference) < 2 ^ (exponent + 41) },
+    pub ghost exponent_bound: { exponent ≤ 277 },
+    pub ghost width_bound: { width ≤ 16 },
+}
+
+// A signed size in whole units, rounded down, modulo 2^64, and how often something was lost: a number, since two of these are added.
 #[derive(Clone, Copy)]
 pub struct Cut {
     pub word: u64,
@@ -20,49 +43,28 @@ pub struct Cut {
 pub struct Base {
     pub reference: u32,
     pub exponent: u32,
-    pub word: u64,
-    pub lost: u64,
+    pub opposite: Cut,
+    pub ghost reference_finite: { magnitude 23 8 reference < infinity 23 8 },
+    pub ghost exponent_bound: { exponent ≤ 277 },
+    pub ghost opposite_word: { opposite.word ≡ (reading_of (opposed reference) (exponent - 39)).word },
+    pub ghost opposite_lost: { opposite.lost ≡ (reading_of (opposed reference) (exponent - 39)).lost },
 }
 
 // The spacing's exponent of a magnitude.
-fn shift_of(m: u32) -> u32
-    ensures { result ≡ spacing_exp 23 m }
+#[tactic(auto, unfolding(meaning::specs::Readings::spacing_exp, meaning::specs::Readings::exponent_field))]
+fn spacing_of(magnitude: u32) -> u32
+    ensures { result ≡ spacing_exp 23 magnitude }
 {
-    let f = m >> 23;
-    if f == 0 {
-        return 0;
-    }
-    f - 1
+    (magnitude >> 23).saturating_sub(1)
 }
 
-// Twice the significand of a magnitude whose spacing is 2^x.
-fn twice_sig(m: u32, x: u32) -> u64
-    requires { x ≡ spacing_exp 23 m }
-    ensures size { result * 2 ^ x ≡ 2 * size 23 m }
+// Twice the significand of a magnitude whose spacing is 2^spacing.
+fn twice_sig(magnitude: u32, spacing: u32) -> u64
+    requires { spacing ≡ spacing_exp 23 magnitude }
+    ensures size { result * 2 ^ spacing ≡ 2 * size 23 magnitude }
     ensures small { result < 2 ^ 25 }
 {
-    let s = m - x * 8388608;
-    (s as u64) * 2
-}
-
-// 0 where two words are the same, else 1.
-fn flag(a: u64, b: u64) -> u64
-    ensures { result ≡ flag_of a b }
-{
-    if a == b {
-        return 0;
-    }
-    1
-}
-
-// A shift that a word can do.
-fn capped(d: u32) -> u32
-    ensures { result ≡ min d 63 }
-{
-    if d < 63 {
-        return d;
-    }
-    63
+    u64::from(magnitude - spacing * 0x0080_0000) * 2
 }
 
 // The size a * 2^x in units of 2^s.
@@ -72,54 +74,54 @@ fn cut_size(a: u64, x: u32, s: u32) -> Cut
     ensures { result ≡ cut_of 0 (a * 2 ^ x) (2 ^ s) }
 {
     if s <= x {
-        let w = a << (x - s);
-        return Cut { word: w, lost: 0 };
+        Cut {
+            word: a << (x - s),
+            lost: 0,
+        }
+    } else {
+        // A shift that a word can do.
+        let digits = (s - x).min(63);
+        let word = a >> digits;
+        Cut {
+            word,
+            lost: u64::from(word << digits != a),
+        }
     }
-    let d = capped(s - x);
-    let w = a >> d;
-    let back = w << d;
-    let l = flag(back, a);
-    Cut { word: w, lost: l }
 }
 
-// Twice the signed size of a reading in units of 2^s.
-fn cut_reading(w: u32, s: u32) -> Cut
-    requires { spacing_exp 23 (magnitude 23 8 w) < s + 64 }
-    ensures { result ≡ reading_of w s }
+// Twice the signed size of a reading in units of 2^unit.
+fn cut_reading(reading: u32, unit: u32) -> Cut
+    requires { spacing_exp 23 (magnitude 23 8 reading) < unit + 64 }
+    ensures { result ≡ reading_of reading unit }
 {
-    let m = w % 2147483648;
-    let x = shift_of(m);
-    let a = twice_sig(m, x);
-    let c = cut_size(a, x, s);
-    if w < 2147483648 {
-        return c;
-    }
-    let t = std::num::wrapping_sub_u64(0, c.word);
-    let z = std::num::wrapping_sub_u64(t, c.lost);
-    Cut {
-        word: z,
-        lost: c.lost,
+    let magnitude = reading % 0x8000_0000;
+    let spacing = spacing_of(magnitude);
+    let size = cut_size(twice_sig(magnitude, spacing), spacing, unit);
+    if reading < 0x8000_0000 {
+        size
+    } else {
+        let word = size.word.wrapping_neg().wrapping_sub(size.lost);
+        Cut {
+            word,
+            lost: size.lost,
+        }
     }
 }
 
 // The reading with the other sign.
-fn opposite(w: u32) -> u32
-    ensures { result ≡ pattern 23 8 (1 - sign 23 8 w) (magnitude 23 8 w) }
+#[tactic(auto, unfolding(crate::specs::Cut::opposed, meaning::specs::Readings::pattern, meaning::specs::Readings::sign, meaning::specs::Readings::magnitude))]
+fn opposite(reading: u32) -> u32
+    ensures { result ≡ opposed reading }
 {
-    if w < 2147483648 {
-        return w + 2147483648;
-    }
-    w - 2147483648
+    reading.wrapping_add(0x8000_0000)
 }
 
+#[tactic(auto, unfolding(crate::specs::Cut::bump))]
 fn bump_of(d: u64, k: u32, lost: u64) -> u64
     requires { k ≤ 40 }
     ensures { result ≡ bump d k lost }
 {
-    if lost == 0 {
-        return (d >> k) % 2;
-    }
-    1
+    if lost == 0 { (d >> k) % 2 } else { 1 }
 }
 
 // A half of 2^k.
@@ -128,7 +130,7 @@ fn half(k: u32) -> u64
     requires k_bound { k ≤ 40 }
     ensures { result ≡ 2 ^ (k - 1) }
 {
-    1u64 << (k - 1)
+    1 << (k - 1)
 }
 
 // d / 2^k to the nearest, a tie to the even number; `lost` says that d stands for a little more.
@@ -137,57 +139,57 @@ fn round_word(d: u64, k: u32, lost: u64) -> u64
     requires k_bound { k ≤ 40 }
     ensures { result ≡ round_word d k lost }
 {
-    let b = bump_of(d, k, lost);
-    let h = half(k);
-    let z = std::num::wrapping_add_u64(d, h - 1 + b);
-    z >> k
+    let bump = bump_of(d, k, lost);
+    let raised = d.wrapping_add(half(k) - 1 + bump);
+    raised >> k
 }
 
 // The exponent of the unit that sizes are cut to.
-fn unit_of(e: u32) -> u32
-    ensures { result ≡ e - 39 }
+fn unit_of(exponent: u32) -> u32
+    ensures { result ≡ exponent - 39 }
 {
-    if e < 39 {
-        return 0;
-    }
-    e - 39
+    exponent.saturating_sub(39)
 }
 
-// The part of a code that is the same for the whole layer.
-pub fn base_of(r: u32, e: u32) -> Base
-    requires r_bound { magnitude 23 8 r < infinity 23 8 }
-    requires e_bound { e ≤ 277 }
-    requires r_bound_2 { size 23 (magnitude 23 8 r) < 2 ^ (e + 41) }
-    ensures { result ≡ base_of r e }
-{
-    let s = unit_of(e);
-    let o = opposite(r);
-    let b = cut_reading(o, s);
-    Base {
-        reference: r,
-        exponent: e,
-        word: b.word,
-        lost: b.lost,
+impl Base {
+    // The part of a code that is the same for the whole layer.
+    pub fn of(reference: u32, exponent: u32) -> Self
+        requires reference_finite { magnitude 23 8 reference < infinity 23 8 }
+        requires exponent_bound { exponent ≤ 277 }
+        requires reference_small { size 23 (magnitude 23 8 reference) < 2 ^ (exponent + 41) }
+        ensures reference { result.reference ≡ reference }
+        ensures exponent { result.exponent ≡ exponent }
+    {
+        Base {
+            reference,
+            exponent,
+            opposite: cut_reading(opposite(reference), unit_of(exponent)),
+        }
     }
-}
 
-// The code of a reading, with the layer's part done before.
-pub fn code_with(w: u32, base: Base) -> u16
-    requires base_value { base ≡ base_of base.reference base.exponent }
-    requires w_bound { magnitude 23 8 w < infinity 23 8 }
-    requires reference_bound { magnitude 23 8 base.reference < infinity 23 8 }
-    requires exponent_bound { base.exponent ≤ 277 }
-    requires w_bound_2 { size 23 (magnitude 23 8 w) < 2 ^ (base.exponent + 41) }
-    requires reference_bound_2 { position 23 8 base.reference ≤ position 23 8 w }
-    requires reference_bound_3 { position 23 8 w - position 23 8 base.reference ≤ 65534 * 2 ^ base.exponent }
-    ensures { result ≡ nearest (position 23 8 w - position 23 8 base.reference) (2 ^ base.exponent) }
-{
-    let e = base.exponent;
-    let s = unit_of(e);
-    let a = cut_reading(w, s);
-    let d = std::num::wrapping_add_u64(a.word, base.word);
-    let c = round_word(d, e + 1 - s, a.lost + base.lost);
-    c as u16
+    // The code of a reading.
+    pub fn code(self, reading: u32) -> u16
+        requires { CanCode reading self.reference self.exponent }
+        ensures { result ≡ nearest (position 23 8 reading - position 23 8 self.reference) (2 ^ self.exponent) }
+    {
+        let unit = unit_of(self.exponent);
+        let cut = cut_reading(reading, unit);
+        let difference = cut.word.wrapping_add(self.opposite.word);
+        let lost = cut.lost + self.opposite.lost;
+        round_word(difference, self.exponent + 1 - unit, lost) as u16
+    }
+
+    // The code of a reading that may be missing.
+    fn code_or_mark(self, reading: u32, mark: u32, missing: u16) -> u16
+        requires { reading ≢ mark → CanCode reading self.reference self.exponent }
+        ensures { result ≡ code_by missing mark self.reference self.exponent reading }
+    {
+        if reading == mark {
+            missing
+        } else {
+            self.code(reading)
+        }
+    }
 }
 
 // So many steps of 2^k.
@@ -199,101 +201,72 @@ fn top_of(steps: u64, k: u32) -> u64
     steps << k
 }
 
-// Do so many steps of 2^e hold the span from lo to hi?
-fn holds_at(hi: u32, lo: u32, e: u32, steps: u64) -> bool
-    requires hi_bound { magnitude 23 8 hi < infinity 23 8 }
-    requires lo_bound { magnitude 23 8 lo < infinity 23 8 }
-    requires e_bound { e ≤ 277 }
-    requires hi_bound_2 { spacing_exp 23 (magnitude 23 8 hi) < e - 39 + 64 }
-    requires lo_bound_2 { spacing_exp 23 (magnitude 23 8 lo) < e - 39 + 64 }
-    requires lo_bound_3 { position 23 8 lo ≤ position 23 8 hi }
-    requires e_bound_2 { (position 23 8 hi - position 23 8 lo) * 2 / 2 ^ (e - 39) < 2 ^ 60 }
+// Do so many steps of 2^exponent hold a span?
+fn holds_at(span: Span, exponent: u32, steps: u64) -> bool
+    requires exponent_bound { exponent ≤ 277 }
+    requires high_bound { spacing_exp 23 (magnitude 23 8 span.high) < exponent - 39 + 64 }
+    requires low_bound { spacing_exp 23 (magnitude 23 8 span.low) < exponent - 39 + 64 }
+    requires span_bound { (position 23 8 span.high - position 23 8 span.low) * 2 / 2 ^ (exponent - 39) < 2 ^ 60 }
     requires le_steps { 1 ≤ steps }
     requires steps_bound { steps ≤ 65534 }
-    ensures { result ≡ nat_le (position 23 8 hi - position 23 8 lo) (steps * 2 ^ e) }
+    ensures { result ≡ nat_le (position 23 8 span.high - position 23 8 span.low) (steps * 2 ^ exponent) }
 {
-    let s = unit_of(e);
-    let a = cut_reading(hi, s);
-    let o = opposite(lo);
-    let b = cut_reading(o, s);
-    let lost = a.lost + b.lost;
+    let unit = unit_of(exponent);
+    let high = cut_reading(span.high, unit);
+    let low = cut_reading(opposite(span.low), unit);
+    let difference = high.word.wrapping_add(low.word);
+    let top = top_of(steps, exponent + 1 - unit);
+    let lost = high.lost + low.lost;
+    // Where both lost something, both are small beside one step.
     if lost == 2 {
-        return true;
+        true
+    } else if difference == top {
+        lost == 0
+    } else {
+        difference < top
     }
-    let d = std::num::wrapping_add_u64(a.word, b.word);
-    let top = top_of(steps, e + 1 - s);
-    if d < top {
-        return true;
-    }
-    if top < d {
-        return false;
-    }
-    lost == 0
 }
 
-fn larger(x: u32, y: u32) -> u32
-    ensures { result ≡ max x y }
-{
-    if x < y {
-        return y;
-    }
-    x
-}
-
-// The least exponent, in least spacings, whose steps hold the span from lo to hi.
-pub fn least_step(lo: u32, hi: u32, width: u32) -> u32
-    requires lo_bound { magnitude 23 8 lo < infinity 23 8 }
-    requires hi_bound { magnitude 23 8 hi < infinity 23 8 }
-    requires lo_bound_2 { position 23 8 lo < position 23 8 hi }
+// The least exponent, in least spacings, whose steps hold a span.
+pub fn least_step(span: Span, width: u32) -> u32
     requires le_width { 2 ≤ width }
     requires width_bound { width ≤ 16 }
-    ensures { result ≡ least_from width (position 23 8 hi - position 23 8 lo) 277 0 }
+    ensures { result ≡ least_from width (position 23 8 span.high - position 23 8 span.low) 277 0 }
 {
     let steps = layer_width::steps_of(width);
-    let x = shift_of(lo % 2147483648);
-    let y = shift_of(hi % 2147483648);
-    let z = larger(x, y);
-    let mut e = z + 26 - width;
-    while 0 < e {
-        let h = holds_at(hi, lo, e - 1, steps);
-        if h {
-            e -= 1;
-        } else {
-            return e;
-        }
+    let low_spacing = spacing_of(span.low % 0x8000_0000);
+    let high_spacing = spacing_of(span.high % 0x8000_0000);
+    // From here down, as long as the exponent below holds the span too. A `while`: what it counts is what is looked for, and no place in a slice.
+    let mut exponent = low_spacing.max(high_spacing) + 26 - width;
+    while 0 < exponent && holds_at(span, exponent - 1, steps) {
+        exponent -= 1;
     }
-    e
+    exponent
 }
 
-// The code of a reading that may be missing.
-fn code_or_mark(w: u32, mark: u32, base: Base, missing: u16) -> u16
-    requires base_value { base ≡ base_of base.reference base.exponent }
-    requires reference_bound { magnitude 23 8 base.reference < infinity 23 8 }
-    requires exponent_bound { base.exponent ≤ 277 }
-    requires can_code { w ≢ mark → CanCode w base.reference base.exponent }
-    ensures { result ≡ code_by missing mark base.reference base.exponent w }
+// Gives each place of `out` what `code` makes of the reading at that place.
+pub fn code_each<F: Fn(u32) -> u16>(readings: &[u32], out: &mut [u16], code: F)
+    requires readings_len { length readings.now ≡ length out.old }
+    requires codable { EachIndex readings.now (λ k. F.pre code (slice_index readings.now k)) }
+    ensures { EachIndex readings.now (λ k. F.post code (slice_index readings.now k) (slice_index out.new k)) }
 {
-    if w == mark {
-        return missing;
+    // Not a zip with `out.iter_mut()`: a proof doesn't know what such a loop has written.
+    for (i, reading) in readings.iter().enumerate() {
+        out[i] = code(*reading);
     }
-    code_with(w, base)
 }
 
 // The codes of a layer.
-pub fn codes_of(readings: &[u32], mark: u32, r: u32, e: u32, width: u32, out: &mut [u16])
-    requires r_bound { magnitude 23 8 r < infinity 23 8 }
-    requires e_bound { e ≤ 277 }
-    requires r_bound_2 { size 23 (magnitude 23 8 r) < 2 ^ (e + 41) }
-    requires all_ready { AllReady mark r e readings.now }
+pub fn codes_of(readings: &[u32], mark: u32, layer: LayerStep, out: &mut [u16])
+    requires all_ready { AllReady mark layer.reference layer.exponent readings.now }
     requires readings_len { length readings.now ≡ length out.old }
-    requires width_bound { width ≤ 16 }
-    ensures { out.new ≡ map (code 23 8 mark (layer_by width r e)) readings.now }
+    ensures { out.new ≡ map (code 23 8 mark (layer_by layer.width layer.reference layer.exponent)) readings.now }
 {
-    let base = base_of(r, e);
-    let missing = layer_width::missing_of(width);
-    let mut i: usize = 0;
-    while i < readings.len() {
-        out[i] = code_or_mark(readings[i], mark, base, missing);
-        i += 1;
-    }
+    let base = Base::of(layer.reference, layer.exponent);
+    let missing = layer_width::missing_of(layer.width);
+    code_each(
+        readings,
+        out,
+        |reading| base.code_or_mark(reading, mark, missing),
+    );
 }

@@ -76,9 +76,7 @@ pub fn unpack_layer(codes: &[u16], l: LayerFloats, mark: u64, readings: &mut [u6
     requires { Finite l × (length codes.now ≡ length readings.old) }
     ensures { readings.new ≡ map (decoded l mark) codes.now }
 {
-    let mut i: usize = 0;
-    while i < codes.len() {
-        readings[i] = unpack_code(l, codes[i], mark);
-        i += 1;
+    for (i, code) in codes.iter().enumerate() {
+        readings[i] = unpack_code(l, *code, mark);
     }
 }

@@ -11,8 +11,7 @@ use native.Mathlib.Omega.{arith}
 use borrow.Author.Tests.{eq-eqb, ne_eqb, lt-ltb, le-ltb}
 use lib.Dec.{ltb}
 use lib.Pow.{pow-lt}
-use lib.ListN.{length, get_or, set}
-use lib.Seq.{get_or-set_same, get_or-set_other}
+use lib.ListN.{get_or}
 use Rattle.meaning.specs.Methods.{decade}
 use Rattle.powers.specs.Table.{powers}
 use Rattle.digit_tails.specs.Step.{step_exponent}
@@ -125,13 +124,3 @@ pub mask_some : (n f s p j t : ℕ) → f ≢ 0 → f ≢ 255 → f < 256 → s 
 mask_some n f s p j t a b l h k pp jj tt' =
     let e : t ≡ field_tail n f s = tt' ∙ rw (jj, pp) (sym (tail_some n f s a b)) in
     rw (e, one-mul) (mod-eq_of_lt (pow-lt {i = field_tail n f s} {j = 32} (tail_short n f s l h k)))
-
--- ---- a table that is filled in order
-
-pub filled : (g : ℕ → ℕ) (xs : List ℕ) (i v : ℕ) → i < length xs → v ≡ g i → ((k : ℕ) → k < i → get_or xs k 0 ≡ g k)
-    → (k : ℕ) → k < i + 1 → get_or (set xs i v) k 0 ≡ g k
-filled g xs i v h e all k l = go (ℕ_discrete k i)
-  where
-    go : Dec (k ≡ i) → get_or (set xs i v) k 0 ≡ g k
-    go (yes z) = rw z (get_or-set_same xs i v 0 h ∙ e)
-    go (no z) = get_or-set_other xs i k v 0 z ∙ all k (omega arith)

@@ -42,11 +42,9 @@ pub fn limits(table: &[u64; 633]) -> [u32; 256]
     requires { table.now ≡ powers }
     ensures { Limits result }
 {
-    let mut all: [u32; 256] = [0; 256];
-    let mut f: usize = 0;
-    while f < 256 {
-        all[f] = field_limit(table, f);
-        f += 1;
+    let mut all = [0; 256];
+    for (f, limit) in all.iter_mut().enumerate() {
+        *limit = field_limit(table, f);
     }
     all
 }
@@ -65,7 +63,7 @@ fn field_mask(i: usize, n: u32) -> u32
     }
     let place = field_place(f) + i % 2;
     let j = digit_tails::step_exponent(place - n as usize);
-    let t = digit_tails::difference(j, 924 + f as u32);
+    let t = j.saturating_sub(924 + f as u32);
     (1u32 << t) - 1
 }
 
@@ -74,11 +72,9 @@ pub fn masks(n: u32) -> [u32; 512]
     requires { n ≤ 7 }
     ensures { Masks n result }
 {
-    let mut all: [u32; 512] = [0; 512];
-    let mut i: usize = 0;
-    while i < 512 {
-        all[i] = field_mask(i, n);
-        i += 1;
+    let mut all = [0; 512];
+    for (i, mask) in all.iter_mut().enumerate() {
+        *mask = field_mask(i, n);
     }
     all
 }

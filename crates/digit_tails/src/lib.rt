@@ -13,6 +13,7 @@ fn subnormal_place(table: &[u64; 633], m: u64) -> usize
     requires { (0 < m) × (m < 0x0010_0000_0000_0000) × (table.now ≡ powers) }
     ensures { (result ≤ 632) × (decade 52 11 m ≡ result + 751) }
 {
+    // Down from the largest, which most are near. `partition_point` in its place made the method a fifth slower on all doubles.
     let mut r: usize = 16;
     while m < table[r] {
         r -= 1;
@@ -45,29 +46,19 @@ pub fn step_exponent(i: usize) -> u32
     ((i * 108853 + 33340) >> 15) as u32
 }
 
-// a - b, and 0 where b is the larger.
-pub fn difference(a: u32, b: u32) -> u32
-    ensures { result ≡ a - b }
-{
-    if a <= b {
-        return 0;
-    }
-    a - b
-}
-
 // How many last bits of a double the method changes when it keeps n digits; 0 says that the reading stays.
 pub fn double_tail(table: &[u64; 633], m: u64, n: u32) -> u32
     requires { (0 < m) × (m < 0x7ff0_0000_0000_0000) × (1 ≤ n) × (n ≤ 15) × (table.now ≡ powers) }
     ensures { (result ≤ 52) × (new_magnitude 52 11 (digits n) 0 m ≡ halfshaved result m) }
 {
-    let c = difference((m >> 52) as u32, 1);
+    let c = ((m >> 52) as u32).saturating_sub(1);
     let r = decade_place(table, m);
     let d = n as usize;
     if r < d {
         return 0;
     }
     let j = step_exponent(r - d);
-    difference(j, c)
+    j.saturating_sub(c)
 }
 
 // The double of the same size as a subnormal single: doubled until it is as long as a normal one.
@@ -100,7 +91,7 @@ pub fn single_tail(table: &[u64; 633], m: u32, n: u32) -> u32
     requires { (0 < m) × (m < 0x7f80_0000) × (1 ≤ n) × (n ≤ 7) × (table.now ≡ powers) }
     ensures { (result ≤ 23) × (new_magnitude 23 8 (digits n) 0 m ≡ halfshaved result m) }
 {
-    let c = 925 + difference(m >> 23, 1);
+    let c = 925 + (m >> 23).saturating_sub(1);
     let w = widened(m);
     let r = decade_place(table, w);
     let d = n as usize;
@@ -108,5 +99,5 @@ pub fn single_tail(table: &[u64; 633], m: u32, n: u32) -> u32
         return 0;
     }
     let j = step_exponent(r - d);
-    difference(j, c)
+    j.saturating_sub(c)
 }

@@ -1,19 +1,26 @@
 -- Readers that go byte by byte, over plain lists.
 use Prim.Native.Nat.{ℕ, zero, suc, ◌+◌, ◌-◌, ◌*◌, ◌^◌, ◌≤◌, ◌<◌}
 use native.Mathlib.Omega.{arith}
-use native.Mathlib.Nat.{not-suc-le-zero, pow-succ', pow-le-pow_right, add-zero, zero-add, sub-zero}
+use native.Mathlib.Nat.{not-suc-le-zero, pow-succ', pow-le-pow_right}
 use native.Mathlib.Numerals.{add-one}
 use mathlib.Core.Path.{◌≡◌, refl, sym, ap, ◌∙◌, subst}
 use mathlib.Core.Bool.{Bool, true, false, cond, ◌&&◌, true≢false}
+use Rattle.std.proofs.Common.{Option, Some, None, Bor, eqb}
+use Rattle.std.proofs.lemmas.Bool.{false≢true, eqb-true}
 use mathlib.Core.List.{List, [], ◌∷◌, ◌++◌}
 use lib.Dec.{leb}
 use lib.ListN.{length, take, drop, get_or, length-take, length-drop, drop_of_length-le}
 use lib.Seq.{drop-cons, drop-drop, take-suc, get_or-drop}
-use borrow.Author.Tests.{leb-true, le-leb, lt-leb, eq-eqb, ne_eqb}
+use borrow.Author.Tests.{leb-true, leb-false, le-leb, lt-leb, eq-eqb, ne_eqb}
+use Rattle.std.specs.List.{take_while}
+use Rattle.std.specs.Option.{option_eq}
+use Rattle.std.specs.Slice.{IsItemAt}
+use Rattle.std.proofs.lemmas.List.{get_or-take, length-take-le}
+use Rattle.std.proofs.lemmas.List.Sums.{take_while-cons}
 use Rattle.form.specs.Form.{hex_text, is_digit}
 use Rattle.form.specs.Parse.{got, bad, then, run_of, read_run, digit_of, read_hex, read_pattern, skip, ending}
 use Rattle.form.specs.Output.{number_of}
-use Rattle.fields_in.specs.Fields.{read_number}
+use Rattle.fields_in.specs.Fields.{read_number, skip_got}
 
 -- ---- eight hexadecimal digits: v is made of the first i, and the rest is still to be read
 pub record HexTurn (s : List ℕ) (at v i : ℕ) : Type 0 where
@@ -22,9 +29,6 @@ pub record HexTurn (s : List ℕ) (at v i : ℕ) : Type 0 where
   pub small : v < 16 ^ i
   pub same : read_hex (8 - i) v (drop (at + i) s) ≡ read_pattern (drop at s)
 
-pub hex_start : (s : List ℕ) (at : ℕ) → at ≤ length s → HexTurn s at 0 0
-hex_start s at h = record { low = omega arith; within = omega arith; small = omega arith; same = ap (λ (p : ℕ). read_hex 8 0 (drop p s)) (add-zero at) }
-
 module _ (s : List ℕ) (at v i : ℕ) (t : HexTurn s at v i) (h : i < 8) where
   pub hex_room : v < 2 ^ 28
   hex_room = let a = t.small in let b : 16 ^ i ≤ 16 ^ 7 = pow-le-pow_right {n = 16} (omega arith) {i = i} {j = 7} (omega arith) in omega arith
@@ -32,33 +36,35 @@ module _ (s : List ℕ) (at v i : ℕ) (t : HexTurn s at v i) (h : i < 8) where
   next_i : 8 - i ≡ suc (8 - (i + 1))
   next_i = omega arith
 
-  pub hex_ended : length s - at ≤ i → read_pattern (drop at s) ≡ bad
+  pub hex_ended : length s ≤ at + i → read_pattern (drop at s) ≡ bad
   unfolding read_hex
   hex_ended k =
       sym t.same
       ∙ ap (λ (n : ℕ). read_hex n v (drop (at + i) s)) next_i
-      ∙ ap (read_hex (suc (8 - (i + 1))) v) (drop_of_length-le s {i = at + i} (let w = t.within in omega arith))
+      ∙ ap (read_hex (suc (8 - (i + 1))) v) (drop_of_length-le s {i = at + i} k)
 
-  opened : at + i < length s → read_pattern (drop at s) ≡ cond (leb (digit_of (get_or s (at + i) 0)) 15) (read_hex (8 - (i + 1)) (v * 16 + digit_of (get_or s (at + i) 0)) (drop (suc (at + i)) s)) bad
-  unfolding read_hex
-  opened k =
-      sym t.same
-      ∙ ap (λ (n : ℕ). read_hex n v (drop (at + i) s)) next_i
-      ∙ ap (read_hex (suc (8 - (i + 1))) v) (drop-cons s (at + i) 0 k)
+  module _ (k : at + i < length s) (b : ℕ) (e : b ≡ get_or s (at + i) 0) where
+    opened : read_pattern (drop at s) ≡ cond (leb (digit_of b) 15) (read_hex (8 - (i + 1)) (v * 16 + digit_of b) (drop (suc (at + i)) s)) bad
+    unfolding read_hex
+    opened =
+        sym t.same
+        ∙ ap (λ (n : ℕ). read_hex n v (drop (at + i) s)) next_i
+        ∙ ap (read_hex (suc (8 - (i + 1))) v) (drop-cons s (at + i) 0 k)
+        ∙ ap (λ (c : ℕ). cond (leb (digit_of c) 15) (read_hex (8 - (i + 1)) (v * 16 + digit_of c) (drop (suc (at + i)) s)) bad) (sym e)
 
-  pub hex_stopped : at + i < length s → (d : ℕ) → d ≡ digit_of (get_or s (at + i) 0) → 15 < d → read_pattern (drop at s) ≡ bad
-  hex_stopped k d e l = opened k ∙ ap (λ (b : Bool). cond b (read_hex (8 - (i + 1)) (v * 16 + digit_of (get_or s (at + i) 0)) (drop (suc (at + i)) s)) bad) (lt-leb (digit_of (get_or s (at + i) 0)) 15 (subst (λ (n : ℕ). 15 < n) e l))
+    pub hex_stopped : digit_of b ≡ 16 → read_pattern (drop at s) ≡ bad
+    hex_stopped l = opened ∙ ap (λ (c : Bool). cond c (read_hex (8 - (i + 1)) (v * 16 + digit_of b) (drop (suc (at + i)) s)) bad) (lt-leb (digit_of b) 15 (omega arith))
 
-  pub hex_turn : at + i < length s → (d : ℕ) → d ≡ digit_of (get_or s (at + i) 0) → d ≤ 15 → HexTurn s at (v * 16 + d) (i + 1)
-  hex_turn k d e l = record {
-    low = omega arith;
-    within = omega arith;
-    small = let a = t.small in let p : 16 ^ (i + 1) ≡ 16 * 16 ^ i = ap (λ (n : ℕ). 16 ^ n) (add-one i) ∙ pow-succ' 16 i in omega arith;
-    same =
-        ap (λ (n : ℕ). read_hex (8 - (i + 1)) (v * 16 + n) (drop (at + (i + 1)) s)) e
-        ∙ ap (λ (n : ℕ). read_hex (8 - (i + 1)) (v * 16 + digit_of (get_or s (at + i) 0)) (drop n s)) {x = at + (i + 1)} {y = suc (at + i)} (omega arith)
-        ∙ sym (opened k ∙ ap (λ (b : Bool). cond b (read_hex (8 - (i + 1)) (v * 16 + digit_of (get_or s (at + i) 0)) (drop (suc (at + i)) s)) bad) (le-leb (digit_of (get_or s (at + i) 0)) 15 (subst (λ (n : ℕ). n ≤ 15) e l)));
-  }
+    pub hex_turn : (d : ℕ) → d ≡ digit_of b → d < 16 → HexTurn s at (v * 16 + d) (i + 1)
+    hex_turn d f l = record {
+      low = omega arith;
+      within = omega arith;
+      small = let a = t.small in let p : 16 ^ (i + 1) ≡ 16 * 16 ^ i = ap (λ (n : ℕ). 16 ^ n) (add-one i) ∙ pow-succ' 16 i in omega arith;
+      same =
+          ap (λ (n : ℕ). read_hex (8 - (i + 1)) (v * 16 + n) (drop (at + (i + 1)) s)) f
+          ∙ ap (λ (n : ℕ). read_hex (8 - (i + 1)) (v * 16 + digit_of b) (drop n s)) {x = at + (i + 1)} {y = suc (at + i)} (omega arith)
+          ∙ sym (opened ∙ ap (λ (c : Bool). cond c (read_hex (8 - (i + 1)) (v * 16 + digit_of b) (drop (suc (at + i)) s)) bad) (le-leb (digit_of b) 15 (omega arith)));
+    }
 
 pub hex_done : (s : List ℕ) (at v i : ℕ) → HexTurn s at v i → 8 ≤ i → read_pattern (drop at s) ≡ got v (drop (at + 8) s)
 unfolding read_hex
@@ -72,59 +78,41 @@ unfolding hex_text
 length-hex zero v = refl
 length-hex (suc k) v = ap suc (length-hex k v)
 
--- ---- a run of a class: i of it are passed
-pub record RunTurn (class : ℕ → Bool) (n : ℕ) (s : List ℕ) (at i : ℕ) : Type 0 where
-  pub low : i ≤ n
-  pub within : at + i ≤ length s
-  pub same : i + length (run_of class (n - i) (drop (at + i) s)) ≡ length (run_of class n (drop at s))
-
-pub run_start : (class : ℕ → Bool) (n : ℕ) (s : List ℕ) (at : ℕ) → at ≤ length s → RunTurn class n s at 0
-run_start class n s at h = record { low = omega arith; within = omega arith; same = zero-add _ ∙ ap (λ (m : ℕ). length (run_of class m (drop (at + 0) s))) (sub-zero n) ∙ ap (λ (p : ℕ). length (run_of class n (drop p s))) (add-zero at) }
-
-module _ (class : ℕ → Bool) (n : ℕ) (s : List ℕ) (at i : ℕ) (t : RunTurn class n s at i) (h : i < n) where
-  next_n : n - i ≡ suc (n - (i + 1))
-  next_n = omega arith
-
-  pub run_ended : length s - at ≤ i → i ≡ length (run_of class n (drop at s))
-  unfolding run_of
-  run_ended k =
-      let e : length (run_of class (n - i) (drop (at + i) s)) ≡ 0 = ap (λ (m : ℕ). length (run_of class m (drop (at + i) s))) next_n ∙ ap (λ (l : List ℕ). length (run_of class (suc (n - (i + 1))) l)) (drop_of_length-le s {i = at + i} (let w = t.within in omega arith)) in
-      omega (arith, t.same)
-
-  run_opened : at + i < length s → length (run_of class (n - i) (drop (at + i) s)) ≡ length (cond (class (get_or s (at + i) 0)) (get_or s (at + i) 0 ∷ run_of class (n - (i + 1)) (drop (suc (at + i)) s)) [])
-  unfolding run_of
-  run_opened k = ap (λ (m : ℕ). length (run_of class m (drop (at + i) s))) next_n ∙ ap (λ (l : List ℕ). length (run_of class (suc (n - (i + 1))) l)) (drop-cons s (at + i) 0 k)
-
-  pub run_stopped : at + i < length s → class (get_or s (at + i) 0) ≡ false → i ≡ length (run_of class n (drop at s))
-  run_stopped k e =
-      let f : length (run_of class (n - i) (drop (at + i) s)) ≡ 0 = run_opened k ∙ ap (λ (b : Bool). length (cond b (get_or s (at + i) 0 ∷ run_of class (n - (i + 1)) (drop (suc (at + i)) s)) [])) e in
-      omega (arith, t.same)
-
-  pub run_turn : at + i < length s → class (get_or s (at + i) 0) ≡ true → RunTurn class n s at (i + 1)
-  run_turn k e =
-      let f : length (run_of class (n - i) (drop (at + i) s)) ≡ suc (length (run_of class (n - (i + 1)) (drop (suc (at + i)) s))) = run_opened k ∙ ap (λ (b : Bool). length (cond b (get_or s (at + i) 0 ∷ run_of class (n - (i + 1)) (drop (suc (at + i)) s)) [])) e in
-      let g : length (run_of class (n - (i + 1)) (drop (at + (i + 1)) s)) ≡ length (run_of class (n - (i + 1)) (drop (suc (at + i)) s)) = ap (λ (p : ℕ). length (run_of class (n - (i + 1)) (drop p s))) {x = at + (i + 1)} {y = suc (at + i)} (omega arith) in
-      record { low = omega arith; within = omega arith; same = omega (arith, t.same) }
-
-pub run_done : (class : ℕ → Bool) (n : ℕ) (s : List ℕ) (at i : ℕ) → RunTurn class n s at i → n ≤ i → i ≡ length (run_of class n (drop at s))
+-- ---- a run of a class
+pub run_taken : (class : ℕ → Bool) (n : ℕ) (s : List ℕ) → length (take_while class (take n s)) ≡ length (run_of class n s)
 unfolding run_of
-run_done class n s at i t h =
-    let z : n - i ≡ 0 = let l = t.low in omega arith in
-    let e : length (run_of class (n - i) (drop (at + i) s)) ≡ 0 = ap (λ (m : ℕ). length (run_of class m (drop (at + i) s))) z in
-    omega (arith, t.same)
+run_taken class zero s = refl
+run_taken class (suc n) [] = refl
+run_taken class (suc n) (b ∷ s) = ap length (take_while-cons class b (take n s)) ∙ go (class b) (run_taken class n s)
+  where
+    go : (t : Bool) → length (take_while class (take n s)) ≡ length (run_of class n s) → length (cond t (b ∷ take_while class (take n s)) []) ≡ length (cond t (b ∷ run_of class n s) [])
+    go true i = ap suc i
+    go false i = refl
 
--- ---- one byte that is asked for
-pub skip_ended : (s : List ℕ) (at n : ℕ) → length s ≤ at → skip (n ∷ []) (drop at s) ≡ bad
-unfolding skip
-skip_ended s at n h = ap (skip (n ∷ [])) (drop_of_length-le s {i = at} h)
+-- ---- one byte that is asked for: is it n that stands at `at`?
+abbrev pub ByteIs : List ℕ → ℕ → ℕ → Bool → Type 0
+ByteIs s at n true = (at < length s) × (get_or s at 0 ≡ n)
+ByteIs s at n false = at < length s → get_or s at 0 ≡ n → ⊥
 
-pub skip_yes : (s : List ℕ) (at n : ℕ) → at < length s → get_or s at 0 ≡ n → skip (n ∷ []) (drop at s) ≡ got tt (drop (at + 1) s)
-unfolding skip
-skip_yes s at n h e = ap (skip (n ∷ [])) (drop-cons s at 0 h) ∙ ap (λ (b : Bool). cond b (got tt (drop (suc at) s)) bad) (eq-eqb (get_or s at 0) n e) ∙ ap (λ (p : ℕ). got tt (drop p s)) (sym (add-one at))
+-- a slice's `get`, compared with `Some` of a byte
+pub byte_is : (s : List ℕ) (at : ℕ) (o : Option (Bor ℕ)) → IsItemAt s at o → (y : Bor ℕ) (r : Bool) → r ≡ option_eq (λ a b. eqb a.now b.now) o (Some y) → ByteIs s at y.now r
+byte_is s at None g y r e = subst (ByteIs s at y.now) (sym e) (λ k _. absurd (omega (arith, g.3)))
+byte_is s at (Some x) g y r e = subst (ByteIs s at y.now) (sym e) (go (eqb x.now y.now) refl)
+  where
+    go : (t : Bool) → eqb x.now y.now ≡ t → ByteIs s at y.now t
+    go true f = (g.3.0, sym (g.3.1 0) ∙ eqb-true x.now y.now f)
+    go false f = λ k h. false≢true (sym f ∙ eq-eqb x.now y.now (g.3.1 0 ∙ h))
 
-pub skip_no : (s : List ℕ) (at n : ℕ) → at < length s → (get_or s at 0 ≡ n → ⊥) → skip (n ∷ []) (drop at s) ≡ bad
+pub skip_byte : (s : List ℕ) (at n : ℕ) (r : Bool) → ByteIs s at n r → skip (n ∷ []) (drop at s) ≡ skip_got s at r
 unfolding skip
-skip_no s at n h e = ap (skip (n ∷ [])) (drop-cons s at 0 h) ∙ ap (λ (b : Bool). cond b (got tt (drop (suc at) s)) bad) (ne_eqb (get_or s at 0) n e)
+skip_byte s at n true h = ap (skip (n ∷ [])) (drop-cons s at 0 h.0) ∙ ap (λ (b : Bool). cond b (got tt (drop (suc at) s)) bad) (eq-eqb (get_or s at 0) n h.1) ∙ ap (λ (p : ℕ). got tt (drop p s)) (sym (add-one at))
+skip_byte s at n false h = go (leb (length s) at) refl
+  where
+    go : (t : Bool) → leb (length s) at ≡ t → skip (n ∷ []) (drop at s) ≡ bad
+    go true e = ap (skip (n ∷ [])) (drop_of_length-le s {i = at} (leb-true (length s) at e))
+    go false e =
+        let k : at < length s = leb-false (length s) at e in
+        ap (skip (n ∷ [])) (drop-cons s at 0 k) ∙ ap (λ (b : Bool). cond b (got tt (drop (suc at) s)) bad) (ne_eqb (get_or s at 0) n (h k))
 
 pub ending_more : (n : ℕ) → (n ≡ 0 → ⊥) → ending n ≡ 44
 ending_more zero h = absurd (h refl)
@@ -206,16 +194,17 @@ unfolding read_number read_run
 number_none s at e = ap (λ (b : Bool). then (cond b bad (got (run_of is_digit 4 (drop at s)) (drop (length (run_of is_digit 4 (drop at s))) (drop at s)))) (λ d s. got (number_of 0 d) s)) (eq-eqb (length (run_of is_digit 4 (drop at s))) 0 e)
 
 module _ (s : List ℕ) (at n v i : ℕ) (t : NumberTurn s at n v i) where
-  pub number_room : i < n → v < 1000
-  number_room h = let a = t.small in let f = t.few in let b : 10 ^ i ≤ 10 ^ 3 = pow-le-pow_right {n = 10} (omega arith) {i = i} {j = 3} (omega arith) in omega arith
-
   pub number_small : v < 10000
   number_small = let a = t.small in let f = t.few in let l = t.low in let b : 10 ^ i ≤ 10 ^ 4 = pow-le-pow_right {n = 10} (omega arith) {i = i} {j = 4} (omega arith) in omega arith
 
-  pub number_turn : i < n → NumberTurn s at n (v * 10 + (get_or s (at + i) 0 - 48)) (i + 1)
-  number_turn h =
-      let d = t.digits i h in
-      let g : get_or (drop at s) i 0 ≡ get_or s (at + i) 0 = get_or-drop at s i 0 in
+  -- the slice of the digits: how many, and each of them
+  pub number_length : length (take (at + n - at) (drop at s)) ≡ n
+  number_length = let w = t.within in let l = length-drop at s in length-take-le (at + n - at) (drop at s) (omega arith) ∙ omega arith
+
+  pub number_turn : i < n → (d : ℕ) → d ≡ get_or (take (at + n - at) (drop at s)) i 0 - 48 → NumberTurn s at n (v * 10 + d) (i + 1)
+  number_turn h d e =
+      let g : get_or (take (at + n - at) (drop at s)) i 0 ≡ get_or (drop at s) i 0 = get_or-take (at + n - at) (drop at s) i 0 (omega arith) in
+      let k : get_or (drop at s) i 0 ≡ get_or s (at + i) 0 = get_or-drop at s i 0 in
       let w = t.within in
       let l = length-drop at s in
       record {
@@ -223,10 +212,10 @@ module _ (s : List ℕ) (at n v i : ℕ) (t : NumberTurn s at n v i) where
         few = t.few;
         within = t.within;
         low = omega arith;
-        small = let a = t.small in let p : 10 ^ (i + 1) ≡ 10 * 10 ^ i = ap (λ (k : ℕ). 10 ^ k) (add-one i) ∙ pow-succ' 10 i in let d1 = d.1 in omega arith;
+        small = let a = t.small in let p : 10 ^ (i + 1) ≡ 10 * 10 ^ i = ap (λ (k : ℕ). 10 ^ k) (add-one i) ∙ pow-succ' 10 i in let d1 = (t.digits i h).1 in omega arith;
         value =
-            ap (λ (k : ℕ). k * 10 + (get_or s (at + i) 0 - 48)) t.value
-            ∙ ap (λ (b : ℕ). number_of 0 (take i (drop at s)) * 10 + (b - 48)) (sym g)
+            ap (λ (k : ℕ). k * 10 + d) t.value
+            ∙ ap (λ (b : ℕ). number_of 0 (take i (drop at s)) * 10 + b) (e ∙ ap (λ (b : ℕ). b - 48) g)
             ∙ sym (number_snoc 0 (take i (drop at s)) (get_or (drop at s) i 0))
             ∙ ap (number_of 0) (sym (take-suc (drop at s) i 0 (omega arith)))
             ∙ ap (λ (k : ℕ). number_of 0 (take k (drop at s))) (sym (add-one i));

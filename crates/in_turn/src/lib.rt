@@ -2,7 +2,7 @@
 // pairs that both slices have. Internal: they show that the demand holds of calls as they run.
 #![tactic(auto)]
 
-ghost use Rattle.std.specs.Prelude.{◌≡◌, map, min};
+ghost use Rattle.std.specs.Prelude.{◌≡◌, map};
 ghost use Rattle.std.specs.Float.{binary32};
 ghost use Rattle.std.specs.Float.Ieee.{to_bits};
 ghost use Rattle.meaning.specs.Calls.{in_turn};
@@ -10,38 +10,23 @@ ghost use Rattle.packing.specs.Answers.{answer_of, packed};
 ghost use Rattle.in_turn.specs.Lists.{calls_of, Promised};
 ghost use Rattle.in_turn.specs.Packed.{PackPromised};
 
-// How many calls two slices make.
-fn calls(methods: usize, settings: usize) -> usize
-    ensures { result ≡ min methods settings }
-{
-    if methods < settings {
-        methods
-    } else {
-        settings
-    }
-}
+use refusal::Refusal;
 
 // The calls of a list over singles, one after the other. A refused one changes nothing, and the list goes on.
 fn run_singles(readings: &mut [u32], methods: &[u32], settings: &[i32], mark: u32)
     ensures { readings.new ≡ in_turn 23 8 (calls_of methods.now settings.now) mark readings.old }
 {
-    let n = calls(methods.len(), settings.len());
-    let mut i: usize = 0;
-    while i < n {
-        trim::trim_singles(readings, methods[i], settings[i], mark);
-        i += 1;
+    for (method, setting) in methods.iter().zip(settings) {
+        let _ = trim::trim_singles(readings, *method, *setting, mark);
     }
 }
 
-// The calls of a list over doubles.
+// The calls of a list over doubles. One function for both would take a closure that changes the array, and its contract would say again what `trim` says: no plainer.
 fn run_doubles(readings: &mut [u64], methods: &[u32], settings: &[i32], mark: u64)
     ensures { readings.new ≡ in_turn 52 11 (calls_of methods.now settings.now) mark readings.old }
 {
-    let n = calls(methods.len(), settings.len());
-    let mut i: usize = 0;
-    while i < n {
-        trim::trim_doubles(readings, methods[i], settings[i], mark);
-        i += 1;
+    for (method, setting) in methods.iter().zip(settings) {
+        let _ = trim::trim_doubles(readings, *method, *setting, mark);
     }
 }
 
@@ -73,7 +58,7 @@ pub fn in_turn_packed(
     codes: &mut [u16],
     references: &mut [f32],
     exponents: &mut [i32],
-) -> packing::Packed
+) -> Result<(), Refusal>
     ensures readings { readings.new ≡ in_turn 23 8 (calls_of methods.now settings.now) mark readings.old }
     ensures answer { answer_of result ≡ (packed mark length widths.now
         (in_turn 23 8 (calls_of methods.now settings.now) mark readings.old) codes.old references.old exponents.old).answer }

@@ -1,3 +1,2 @@
 pub mod One
 pub mod Ready
-pub mod Cases

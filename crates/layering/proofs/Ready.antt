@@ -6,6 +6,8 @@ use mathlib.Core.List.{List, map}
 use Prim.Native.Nat.{ℕ, ◌+◌, ◌-◌, ◌*◌, ◌^◌, ◌≤◌, ◌<◌, zero-le}
 use native.Mathlib.Nat.{mul-le-mul_right}
 use native.Mathlib.Omega.{arith}
+use mir.Syntax.{w32}
+use mir.Val.{Fits}
 use lib.IntN.{sub_ℕ}
 use lib.ListN.{length, get_or}
 use Rattle.meaning.specs.Readings.{size, magnitude, position}
@@ -16,14 +18,15 @@ use Rattle.layer_width.specs.Width.{Width}
 use Rattle.layer_width.proofs.Steps.{steps_few}
 use Rattle.quick.specs.Coarse.{AllHeld}
 use Rattle.summary.specs.Summaries.{Packable}
-use Rattle.summary.proofs.Made.{Made, Spreads, spreads}
+use Rattle.summary.proofs.Made.{Spreads, made, spreads}
 use Rattle.codes.specs.Cut.{AllReady, layer_by}
 use Rattle.codes.proofs.Wide.{layer_sizes}
 
-module _ (b : ℕ) (width : Width b) (mark : ℕ) (ws : List ℕ) (a z : ℕ) (p : Packable mark ws) (m : Made mark ws) (s : summary 23 8 mark ws ≡ Spread a z) where
-  S : Spreads a z
-  S = spreads mark ws a z m s
+-- the two values are finite, and differ
+pub values : (mark : ℕ) (ws : List ℕ) (a z : ℕ) → Packable mark ws → ((i : ℕ) → Fits w32 (get_or ws i 0)) → summary 23 8 mark ws ≡ Spread a z → Spreads a z
+values mark ws a z p f s = spreads mark ws a z (made mark ws p (λ i h. (f i).fits)) s
 
+module _ (b : ℕ) (width : Width b) (mark : ℕ) (ws : List ℕ) (a z : ℕ) (p : Packable mark ws) (S : Spreads a z) (s : summary 23 8 mark ws ≡ Spread a z) where
   abbrev n : ℕ
   n = position 23 8 z - position 23 8 a
 

@@ -10,6 +10,9 @@ ghost use Rattle.layer_width.specs.Width.{Width};
 ghost use Rattle.summary.specs.Summaries.{Packable};
 ghost use Rattle.layering.specs.Layering.{flat_code, One, PackedAs};
 
+use codes::{LayerStep, Span};
+use summary::Summary;
+
 // What is stored of a layer beside its width and its codes.
 #[derive(Clone, Copy)]
 pub struct LayerRecord {
@@ -18,10 +21,11 @@ pub struct LayerRecord {
 }
 
 // The code of a reading in a layer with one value or none.
-fn flat_code(w: u32, mark: u32, missing: u16) -> u16
-    ensures { result ≡ flat_code missing mark w }
+#[tactic(auto, unfolding(crate::specs::Layering::flat_code))]
+fn flat_code(reading: u32, mark: u32, missing: u16) -> u16
+    ensures { result ≡ flat_code missing mark reading }
 {
-    if w == mark { missing } else { 0 }
+    if reading == mark { missing } else { 0 }
 }
 
 // The codes of a layer with one value or none.
@@ -29,19 +33,15 @@ fn flat_codes(readings: &[u32], mark: u32, missing: u16, out: &mut [u16])
     requires { length readings.now ≡ length out.old }
     ensures { out.new ≡ map (flat_code missing mark) readings.now }
 {
-    let mut i: usize = 0;
-    while i < readings.len() {
-        out[i] = flat_code(readings[i], mark, missing);
-        i += 1;
-    }
+    codes::code_each(readings, out, |reading| flat_code(reading, mark, missing));
 }
 
 // E of an exponent counted from -149.
-fn stored(e: u32) -> i32
-    requires { e ≤ 277 }
-    ensures { result ≡ sub_ℕ e 149 }
+fn stored(exponent: u32) -> i32
+    requires { exponent ≤ 277 }
+    ensures { result ≡ sub_ℕ exponent 149 }
 {
-    (e as i32) - 149
+    (exponent as i32) - 149
 }
 
 // A layer with the one value `reference`, or with none and +0.
@@ -66,29 +66,36 @@ fn flat_layer(
     }
 }
 
-// A layer with the smallest value a and the largest z.
+// A layer with the smallest value `low` and the largest `high`.
 fn spread_layer(
     readings: &[u32],
     mark: u32,
     width: u32,
-    a: f32,
-    z: f32,
+    low: f32,
+    high: f32,
     out: &mut [u16],
 ) -> LayerRecord
     requires width { Width width }
     requires readings_len { length readings.now ≡ length out.old }
     requires packable { Packable mark readings.now }
-    requires readings_value { summary 23 8 mark readings.now ≡ Spread (to_bits binary32 a) (to_bits binary32 z) }
+    requires readings_value { summary 23 8 mark readings.now ≡ Spread (to_bits binary32 low) (to_bits binary32 high) }
     ensures layer { PackedAs result (layer_of 23 8 277 mark width readings.now) }
     ensures content { out.new ≡ map (code 23 8 mark (layer_of 23 8 277 mark width readings.now)) readings.now }
 {
-    let low = f32::to_bits(a);
-    let high = f32::to_bits(z);
-    let e = codes::least_step(low, high, width);
-    quick::codes_of(readings, mark, low, e, width, out);
+    let span = Span {
+        low: f32::to_bits(low),
+        high: f32::to_bits(high),
+    };
+    let exponent = codes::least_step(span, width);
+    let layer = LayerStep {
+        reference: span.low,
+        exponent,
+        width,
+    };
+    quick::codes_of(readings, mark, layer, out);
     LayerRecord {
-        reference: a,
-        exponent: stored(e),
+        reference: low,
+        exponent: stored(exponent),
     }
 }
 
@@ -100,10 +107,9 @@ pub fn pack_layer(readings: &[u32], mark: u32, width: u32, out: &mut [u16]) -> L
     ensures layer { PackedAs result (layer_of 23 8 277 mark width readings.now) }
     ensures content { out.new ≡ map (code 23 8 mark (layer_of 23 8 277 mark width readings.now)) readings.now }
 {
-    let s = summary::summary_of(readings, mark);
-    match s {
-        summary::Summary::Nothing => flat_layer(readings, mark, width, 0.0, out),
-        summary::Summary::Flat(a) => flat_layer(readings, mark, width, a, out),
-        summary::Summary::Spread(a, z) => spread_layer(readings, mark, width, a, z, out),
+    match summary::summary_of(readings, mark) {
+        Summary::Nothing => flat_layer(readings, mark, width, 0.0, out),
+        Summary::Flat(value) => flat_layer(readings, mark, width, value, out),
+        Summary::Spread(low, high) => spread_layer(readings, mark, width, low, high, out),
     }
 }

@@ -16,20 +16,20 @@ use Rattle.listing.specs.Jobs.{pieces}
 abbrev Run : List ℕ → ℕ → List ℕ → List ℕ → ℕ → Type 0
 Run l p w m q = (q ≡ p + length w) × (m ≡ paste l p w)
 
-module _ (l names work : List ℕ) (n m : ℕ) (h : (n ≤ 8) × (m ≤ 512) × (length work ≡ 4096) × (length l ≡ 65536)) (few : length names ≤ 136) where
+module _ (l names work : List ℕ) (n m : ℕ) (h : (n ≤ 8) × (m ≤ 512) × (length l ≡ 65536)) (few : length names ≤ 136) where
   abbrev values : List ℕ
   values = value_lines (columns m (area_series work n m))
 
   module _ (l₁ : List ℕ) (p : ℕ) (e₁ : Run l 0 names l₁ p) where
     names_laid : Laid l 0 names l₁ p
-    names_laid = let a = h.3 in record { stored = e₁.1; place = e₁.0; room = omega arith }
+    names_laid = let a = h.2 in record { stored = e₁.1; place = e₁.0; room = omega arith }
 
     module _ (l₂ : List ℕ) (q : ℕ) (e₂ : Run l₁ p values l₂ q) where
       lines_laid : Laid l 0 (names ++ values) l₂ q
       lines_laid =
           let s = area_short work n m h.0 in
           let a = h.1 in
-          let b = h.3 in
+          let b = h.2 in
           let c = e₁.0 in
           laid_more l 0 names l₁ p names_laid values l₂ q (omega arith) e₂.1 e₂.0
 
@@ -40,7 +40,7 @@ module _ (l names work : List ℕ) (n m : ℕ) (h : (n ≤ 8) × (m ≤ 512) × 
       unfolding bytes
       heading_room =
           let a = h.1 in
-          let b = h.3 in
+          let b = h.2 in
           let c = lines_place in
           let d = laid_long l 0 (names ++ values) l₂ q lines_laid in
           omega arith
@@ -60,7 +60,7 @@ module _ (l names work : List ℕ) (n m : ℕ) (h : (n ≤ 8) × (m ≤ 512) × 
           pub counts_room : r + length counts ≤ length l₃
           counts_room =
               let a = h.1 in
-              let b = h.3 in
+              let b = h.2 in
               let c = heading_place in
               let d = laid_long l 0 ((names ++ values) ++ counts_heading) l₃ r heading_laid in
               omega arith

@@ -19,10 +19,8 @@ use Rattle.text_in.specs.Places.{area_series}
 use Rattle.text_out.specs.Places.{paste}
 use Rattle.text_out.proofs.Paste.{paste_none}
 use Rattle.text_out.proofs.LaidLaws.{Laid, laid_more, laid_long, counts_short}
-use Rattle.trim.specs.declared.Answer.{Answer}
-use Rattle.trim.specs.Answers.{answer_of}
 use Rattle.listing.specs.Jobs.{area_trimmed, left_readings, Small}
-use Rattle.listing.proofs.Answers.{printed_of}
+use Rattle.listing.proofs.Answers.{Answer, answer_of, printed_of}
 
 -- ---- counts are small
 
@@ -201,17 +199,17 @@ module _ (w₀ : List ℕ) (n m method : ℕ) (setting : ℤ) (mark : ℕ) (cs�
           ap (λ (y : List ℕ). y ∷ map (series m w) (up_to (suc i) k)) (d i (omega arith))
           ∙ ap (λ (l : List (List ℕ)). (trimmed_at i).readings ∷ l) (all_done (suc i) k (omega arith) d)
 
-  -- the same with the setting as it was handed over
-  pub series_done : (w cs : List ℕ) (j p : ℕ) → SeriesTurn w cs j p → n ≤ j → (z : ℤ) → setting ≡ z
-      → (area_series w n m ≡ left_readings (area_trimmed w₀ n m method z mark))
-      × (p ≡ length (counts_lines (area_trimmed w₀ n m method z mark)))
-      × (cs ≡ paste cs₀ 0 (counts_lines (area_trimmed w₀ n m method z mark)))
+  -- the same with the method's number as it is defined
+  pub series_done : (w cs : List ℕ) (j p : ℕ) → SeriesTurn w cs j p → n ≤ j → (k : ℕ) → method ≡ k
+      → (area_series w n m ≡ left_readings (area_trimmed w₀ n m k setting mark))
+      × (p ≡ length (counts_lines (area_trimmed w₀ n m k setting mark)))
+      × (cs ≡ paste cs₀ 0 (counts_lines (area_trimmed w₀ n m k setting mark)))
       × (p ≤ 24 * n)
-  series_done w cs j p x h z e =
+  series_done w cs j p x h k e =
       subst
-      (λ (y : ℤ). (area_series w n m ≡ left_readings (area_trimmed w₀ n m method y mark))
-      × (p ≡ length (counts_lines (area_trimmed w₀ n m method y mark)))
-      × (cs ≡ paste cs₀ 0 (counts_lines (area_trimmed w₀ n m method y mark)))
+      (λ (y : ℕ). (area_series w n m ≡ left_readings (area_trimmed w₀ n m y setting mark))
+      × (p ≡ length (counts_lines (area_trimmed w₀ n m y setting mark)))
+      × (cs ≡ paste cs₀ 0 (counts_lines (area_trimmed w₀ n m y setting mark)))
       × (p ≤ 24 * n))
       e
       (all_trimmed w cs j p x h)

@@ -1,23 +1,19 @@
 -- The whole: what is written is what is printed for the text.
-use Prim.Native.Nat.{ℕ, ◌+◌, ◌-◌, ◌*◌, ◌≤◌, ◌<◌}
+use Prim.Native.Nat.{ℕ, ◌+◌, ◌-◌, ◌*◌, ◌≤◌}
 use native.Mathlib.Omega.{arith}
-use mathlib.Core.Bool.{Bool, true, false, cond}
 use mathlib.Core.Logic.{◌≢◌}
-use mathlib.Core.Path.{◌≡◌, sym, ap, ◌∙◌, subst}
+use mathlib.Core.Path.{◌≡◌, refl, sym, ap, ◌∙◌}
 use mathlib.Core.List.{List, [], ◌∷◌, ◌++◌, map}
-use lib.Dec.{leb}
 use lib.IntN.{ℤ}
 use lib.ListN.{length, take, drop, length-append, length-take}
 use lib.Seq.{take_at}
-use Rattle.meaning.specs.Questions.{Outcome, refused, trim_questions, setting_in_range}
+use Rattle.meaning.specs.Questions.{Outcome, refused, trim_questions}
 use Rattle.meaning.specs.Calls.{answering, trim_singles}
 use Rattle.form.specs.Form.{Job, All, Run, Valid, is_letter, line, after, value_lines}
-use Rattle.form.specs.Parse.{Got}
+use Rattle.form.specs.Parse.{Got, bad, parse}
 use Rattle.form.specs.Output.{method_number, columns, counts_heading, counts_lines, trimmed_series, output, printed, job_method, job_setting, job_outcome, read_outcome, listed}
 use Rattle.form.proofs.Reading.{sound}
-use Rattle.text_in.specs.declared.Reading.{Reading}
-use Rattle.text_in.specs.declared.Reading.TheVariants.{Good, Wrong}
-use Rattle.text_in.specs.Places.{TextAt, TextRead, area_series}
+use Rattle.text_in.specs.Places.{TextAt, area_series}
 use Rattle.text_out.specs.Places.{paste}
 use Rattle.asking.specs.Asked.{refusal_of}
 use Rattle.asking.proofs.Questions.{accepted_is, refused_is}
@@ -37,12 +33,14 @@ pub counts_few : (k n : ℕ) (l : List ℕ) → k ≤ 24 * n → n ≤ 8 → len
 counts_few k n l h g = simp length-take (omega arith)
 
 -- what is listed for a text without the form
-pub wrong_listed : (t w : List ℕ) (r : Reading) → TextRead t w r → r ≡ Wrong → printed (refused 9) ≡ listed t
+pub wrong_listed : (t : List ℕ) → parse t ≡ bad → printed (refused 9) ≡ listed t
 unfolding listed read_outcome
-wrong_listed t w r x e = ap (λ (g : Got Job). printed (read_outcome g)) (sym (subst (TextRead t w) e x))
+wrong_listed t e = ap (λ (g : Got Job). printed (read_outcome g)) (sym e)
 
-pub text_at : (t w : List ℕ) (r : Reading) (letters : ℕ) (z : ℤ) (mark names first count lines : ℕ) → TextRead t w r → r ≡ Good letters z mark names first count lines → TextAt t w letters z mark names first count lines
-text_at t w r letters z mark names first count lines x e = subst (TextRead t w) e x
+-- no method has the number 7
+pub unknown_is : (z : ℤ) → 1 ≡ refusal_of 23 8 7 z
+unfolding refusal_of
+unknown_is z = refl
 
 module _ (t w : List ℕ) (letters : ℕ) (z : ℤ) (mark names first count lines : ℕ) (x : TextAt t w letters z mark names first count lines) where
   abbrev job : Job
@@ -64,58 +62,49 @@ module _ (t w : List ℕ) (letters : ℕ) (z : ℤ) (mark names first count line
   unfolding listed read_outcome
   job_listed = ap (λ (g : Got Job). printed (read_outcome g)) (sym x.read)
 
-  -- the code's number for the method, and its setting
-  module _ (method : ℕ) (m : method ≡ method_number (take letters (drop 20 t))) (set : ℤ) (s : set ≡ z) where
+  -- the code's number for the method
+  module _ (method : ℕ) (m : method ≡ method_number (take letters (drop 20 t))) where
     method_same : method ≡ job_method job
     method_same = m ∙ ap method_number (sym x.word)
 
-    setting_same : set ≡ job_setting job
-    setting_same = s ∙ sym x.setting
+    setting_same : z ≡ job_setting job
+    setting_same = sym x.setting
 
-    questions_same : trim_questions 23 8 method set ≡ trim_questions 23 8 (job_method job) (job_setting job)
-    questions_same = ap (λ (i : ℕ). trim_questions 23 8 i set) method_same ∙ ap (trim_questions 23 8 (job_method job)) setting_same
+    questions_same : trim_questions 23 8 method z ≡ trim_questions 23 8 (job_method job) (job_setting job)
+    questions_same = ap (λ (i : ℕ). trim_questions 23 8 i z) method_same ∙ ap (trim_questions 23 8 (job_method job)) setting_same
 
-    pub refusal_small : (n : ℕ) → n ≡ refusal_of 23 8 method set → n < 1000
-    unfolding refusal_of
-    refusal_small n e = go (leb method 6) (setting_in_range 23 8 method set) e
-      where
-        go : (a b : Bool) → n ≡ cond a (cond b 0 2) 1 → n < 1000
-        go true true e = omega arith
-        go true false e = omega arith
-        go false b e = omega arith
-
-    pub refused_listed : (n : ℕ) → n ≡ refusal_of 23 8 method set → n ≢ 0 → printed (refused n) ≡ listed t
+    pub refused_listed : (n : ℕ) → n ≡ refusal_of 23 8 method z → n ≢ 0 → printed (refused n) ≡ listed t
     unfolding job_outcome answering
     refused_listed n e h =
         ap (λ (o : Outcome (List ℕ)). printed o)
-        (ap refused e ∙ ap (λ (o : Outcome _). answering o (λ _. output job)) (sym (refused_is 23 8 method set (λ i. h (e ∙ i))) ∙ questions_same))
+        (ap refused e ∙ ap (λ (o : Outcome _). answering o (λ _. output job)) (sym (refused_is 23 8 method z (λ i. h (e ∙ i))) ∙ questions_same))
         ∙ job_listed
 
-    series_same : area_trimmed w count lines method set mark ≡ trimmed_series job
+    series_same : area_trimmed w count lines method z mark ≡ trimmed_series job
     unfolding trimmed_series
     series_same =
-        ap (map (trim_singles method set mark)) x.stored
-        ∙ ap (λ (i : ℕ). map (trim_singles i set mark) (columns count x.rows)) method_same
+        ap (map (trim_singles method z mark)) x.stored
+        ∙ ap (λ (i : ℕ). map (trim_singles i z mark) (columns count x.rows)) method_same
         ∙ ap (λ (i : ℤ). map (trim_singles (job_method job) i mark) (columns count x.rows)) setting_same
         ∙ ap (λ (i : ℕ). map (trim_singles (job_method job) (job_setting job) i) (columns count x.rows)) (sym x.marked)
         ∙ ap (λ (i : ℕ). map (trim_singles (job_method job) (job_setting job) x.values.mark) (columns i x.rows)) (sym x.counted)
 
-    pub accepted_listed : (n : ℕ) → n ≡ refusal_of 23 8 method set → n ≡ 0 → (w' cs₀ cs : List ℕ) (k : ℕ)
-        → area_series w' count lines ≡ left_readings (area_trimmed w count lines method set mark)
-        → k ≡ length (counts_lines (area_trimmed w count lines method set mark))
-        → cs ≡ paste cs₀ 0 (counts_lines (area_trimmed w count lines method set mark))
+    pub accepted_listed : refusal_of 23 8 method z ≡ 0 → (w' cs₀ cs : List ℕ) (k : ℕ)
+        → area_series w' count lines ≡ left_readings (area_trimmed w count lines method z mark)
+        → k ≡ length (counts_lines (area_trimmed w count lines method z mark))
+        → cs ≡ paste cs₀ 0 (counts_lines (area_trimmed w count lines method z mark))
         → pieces (take (first - names) (drop names t)) w' count lines (take k cs) ≡ listed t
     unfolding output job_outcome answering printed
-    accepted_listed n e h w' cs₀ cs k a b c =
+    accepted_listed e w' cs₀ cs k a b c =
         ap (λ (l : List ℕ). pieces l w' count lines (take k cs)) x.named
         ∙ ap (λ (l : List (List ℕ)). line x.series ++ (value_lines (columns lines l) ++ (counts_heading ++ take k cs))) (a ∙ ap left_readings series_same)
         ∙ ap (λ (i : ℕ). line x.series ++ (value_lines (columns i (left_readings (trimmed_series job))) ++ (counts_heading ++ take k cs))) (sym x.lined)
         ∙ ap (λ (l : List ℕ). line x.series ++ (value_lines (columns (length x.rows) (left_readings (trimmed_series job))) ++ (counts_heading ++ l))) counts_same
-        ∙ ap (λ (o : Outcome _). printed (answering o (λ _. output job))) (sym (accepted_is 23 8 method set (sym e ∙ h)) ∙ questions_same)
+        ∙ ap (λ (o : Outcome _). printed (answering o (λ _. output job))) (sym (accepted_is 23 8 method z e) ∙ questions_same)
         ∙ job_listed
       where
         counts_same : take k cs ≡ counts_lines (trimmed_series job)
         counts_same =
             ap (take k) c
-            ∙ take_at (counts_lines (area_trimmed w count lines method set mark)) (drop (0 + length (counts_lines (area_trimmed w count lines method set mark))) cs₀) k (sym b)
+            ∙ take_at (counts_lines (area_trimmed w count lines method z mark)) (drop (0 + length (counts_lines (area_trimmed w count lines method z mark))) cs₀) k (sym b)
             ∙ ap counts_lines series_same

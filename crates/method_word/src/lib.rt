@@ -4,51 +4,40 @@
 
 ghost use Rattle.std.specs.Prelude.{◌≡◌, ◌+◌, ◌≤◌, length, take, drop};
 ghost use Rattle.form.specs.Output.{same_word, method_number};
+ghost use Rattle.method_word.specs.Words.{named_number};
 
-// Are the n bytes from `at` on the word?
-fn word_is(s: &[u8], at: usize, n: usize, word: &[u8]) -> bool
-    requires { at + n ≤ length s.now }
-    ensures { result ≡ same_word (take n (drop at s.now)) word.now }
+use method::Method;
+
+// Are the bytes the word's?
+#[tactic(auto, using(crate::proofs::WordLaws::same_bytes))]
+fn word_is(bytes: &[u8], word: &[u8]) -> bool
+    ensures { result ≡ same_word bytes.now word.now }
 {
-    if n != word.len() {
-        return false;
-    }
-    let mut i: usize = 0;
-    while i < n {
-        if s[at + i] == word[i] {
-            i += 1;
-        } else {
-            return false;
-        }
-    }
-    true
+    bytes == word
 }
 
-// The number of the method whose word is the n bytes from `at` on, and 7 where it is no method's.
-pub fn method_of(s: &[u8], at: usize, n: usize) -> u32
+// The method whose word is the n bytes from `at` on, or none where it is no method's.
+#[tactic(auto, unfolding(form::specs::Output::method_number, form::specs::Output::method_words, form::specs::Output::place_of, form::specs::Form::bytes))]
+pub fn method_of(s: &[u8], at: usize, n: usize) -> Option<Method>
     requires { at + n ≤ length s.now }
-    ensures { result ≡ method_number (take n (drop at s.now)) }
+    ensures { named_number result ≡ method_number (take n (drop at s.now)) }
 {
-    if word_is(s, at, n, b"shave") {
-        return 0;
+    let word = &s[at..at + n];
+    if word_is(word, b"shave") {
+        Some(Method::Shave)
+    } else if word_is(word, b"set") {
+        Some(Method::Set)
+    } else if word_is(word, b"groom") {
+        Some(Method::Groom)
+    } else if word_is(word, b"halfshave") {
+        Some(Method::Halfshave)
+    } else if word_is(word, b"round") {
+        Some(Method::Round)
+    } else if word_is(word, b"absolute") {
+        Some(Method::Absolute)
+    } else if word_is(word, b"digits") {
+        Some(Method::Digits)
+    } else {
+        None
     }
-    if word_is(s, at, n, b"set") {
-        return 1;
-    }
-    if word_is(s, at, n, b"groom") {
-        return 2;
-    }
-    if word_is(s, at, n, b"halfshave") {
-        return 3;
-    }
-    if word_is(s, at, n, b"round") {
-        return 4;
-    }
-    if word_is(s, at, n, b"absolute") {
-        return 5;
-    }
-    if word_is(s, at, n, b"digits") {
-        return 6;
-    }
-    7
 }

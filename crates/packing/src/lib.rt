@@ -7,14 +7,10 @@ ghost use Rattle.std.specs.Float.{binary32};
 ghost use Rattle.std.specs.Float.Ieee.{to_bits};
 ghost use Rattle.packing.specs.Answers.{answer_of, packed};
 
-#[derive(Clone, Copy)]
-pub enum Packed {
-    Done,
-    Refused(u32),
-}
+use refusal::Refusal;
 
 // Packs an array of singles, layer by layer. Each layer has `length` readings; the mark means missing and is compared by its bits; `widths` has a width for each layer,
-// 2 to 16, and is only read. Each layer leaves a code for each reading, a reference and a step exponent. Or answers the refusal's number, and then no array is touched:
+// 2 to 16, and is only read. Each layer leaves a code for each reading, a reference and a step exponent. Or answers the refusal, and then no array is touched:
 // 3 for a length that isn't 1 to 65,536, 4 where the readings do not fill whole layers, 5 where another array has the wrong length, 11 for a width that isn't 2 to 16,
 // 6 where a reading is neither finite nor the mark.
 pub fn pack(
@@ -25,7 +21,7 @@ pub fn pack(
     codes: &mut [u16],
     references: &mut [f32],
     exponents: &mut [i32],
-) -> Packed
+) -> Result<(), Refusal>
     ensures answer { answer_of result
         ≡ (packed mark length widths.now readings.now codes.old references.old exponents.old).answer }
     ensures codes { codes.new
@@ -35,21 +31,17 @@ pub fn pack(
     ensures exponents { exponents.new
         ≡ (packed mark length widths.now readings.now codes.old references.old exponents.old).exponents }
 {
-    let asked = asking_layers::ask_layers(
+    asking_layers::ask_layers(
         length,
         readings.len(),
         codes.len() == readings.len(),
         widths,
         references.len(),
         exponents.len(),
-    );
-    if asked != 0 {
-        return Packed::Refused(asked);
+    )?;
+    if !asking_readings::each_packable(readings, mark) {
+        return Err(Refusal::ReadingNotFinite);
     }
-    let good = asking_readings::each_packable(readings, mark);
-    if good {
-        all_layers::pack_layers(readings, length, mark, widths, codes, references, exponents);
-        return Packed::Done;
-    }
-    Packed::Refused(6)
+    all_layers::pack_layers(readings, length, mark, widths, codes, references, exponents);
+    Ok(())
 }

@@ -1,8 +1,8 @@
--- The documents' number for each case of a conversion's answer.
-use Rattle.meaning.specs.Questions.{Outcome, refused, accepted}
-use Rattle.planes.specs.declared.Converted.{Converted}
-use Rattle.planes.specs.declared.Converted.TheVariants as variants
+-- The documents' outcome for a conversion's answer.
+use Rattle.std.specs.Prelude.{Result}
+use Rattle.meaning.specs.Questions.{Outcome}
+use Rattle.refusal.specs.declared.Refusal.{Refusal}
+use Rattle.refusal.specs.Refusals.{outcome_of}
 
-unfoldable pub answer_of : Converted → Outcome (Unit {0})
-answer_of variants.Done = accepted tt
-answer_of (variants.Refused n) = refused n
+abbrev pub answer_of : Result (Unit {0}) Refusal → Outcome (Unit {0})
+answer_of = outcome_of (λ done. done)

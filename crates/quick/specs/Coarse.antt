@@ -1,10 +1,7 @@
--- Readings whose spacing is not too fine beside a layer's step, so that doubles hold every difference; and what the codes of a layer share.
-use Rattle.std.specs.Prelude.{◌≡◌, ◌≢◌, ◌⊎◌, cond, List, [], ◌∷◌, ℕ, min, ◌+◌, ◌-◌, ◌*◌, ◌%◌, ◌^◌, ◌≤◌, ◌<◌, eqb, length, get_or}
-use Rattle.std.specs.Float.{binary32, binary64}
-use Rattle.std.specs.Float.Ieee.{of_bits}
+-- Readings whose spacing is not too fine beside a layer's step, so that doubles hold every difference.
+use Rattle.std.specs.Prelude.{◌≡◌, ◌≢◌, ◌⊎◌, cond, List, [], ◌∷◌, ℕ, min, ◌-◌, ◌*◌, ◌%◌, ◌^◌, ◌≤◌, ◌<◌, eqb, length, get_or}
 use Rattle.meaning.specs.Readings.{magnitude, spacing_exp, position}
 use Rattle.meaning.specs.Layers.{last_code}
-use Rattle.quick.specs.declared.Lift.{Lift}
 
 -- a reading is zero, or it is a normal number whose spacing is at least 2 ^ j
 abbrev pub Coarse : ℕ → ℕ → Type 0
@@ -28,7 +25,3 @@ or_top m = cond (eqb m 0) 4294967295 m
 unfoldable pub finest : ℕ → List ℕ → ℕ
 finest mark [] = 4294967295
 finest mark (w ∷ ws) = min (or_top (present_magnitude mark w)) (finest mark ws)
-
--- the layer's part of every code: 2 ^ 52 steps are the double with the exponent field e + 926
-unfoldable pub lift_of : ℕ → ℕ → Lift
-lift_of r e = record { reference = r; low = of_bits binary32 r; lift = of_bits binary64 ((e + 926) * 2 ^ 52) }

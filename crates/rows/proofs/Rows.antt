@@ -10,7 +10,7 @@ use native.Mathlib.Omega.{arith}
 use borrow.Author.Tests.{eq-eqb, ne_eqb, lt-ltb, le-ltb}
 use lib.Bits.{bit_xor, xor_zero_l, xor_zero_r}
 use lib.Dec.{eqb, ltb}
-use lib.ListN.{length, take, drop, get_or, set, replicate, length-set, length-take, length-drop, drop_of_length-le}
+use lib.ListN.{length, take, drop, get_or, set, length-set, length-take, length-drop, drop_of_length-le}
 use lib.Seq.{take_all, drop-drop, get_or-set_same, get_or-set_other}
 use Rattle.parts.proofs.Back.{back, drop_back}
 use Rattle.meaning.specs.Readings.{present, missing}
@@ -99,11 +99,6 @@ module _ {F X bit mark : ℕ} {row before : List ℕ} where
         go (no l) = inv.rest c (omega arith) ∙ sym (ap (bit_xor (get_or before c 0)) (ap (takes F X bit mark) (outside mark row c (omega arith)) ∙ missing_takes F X bit mark) ∙ xor_zero_r (get_or before c 0))
 
 -- ---- the pass over all rows: those before r have their bits
-
-pub all_zero : (n c : ℕ) → get_or {A = ℕ} (replicate n 0) c 0 ≡ 0
-all_zero zero c = refl
-all_zero (suc n) zero = refl
-all_zero (suc n) (suc c) = all_zero n c
 
 pub record Marked (F X mark : ℕ) (ws turns : List ℕ) (r : ℕ) : Type 0 where
   pub bits : (q c : ℕ) → bit_of q (get_or turns c 0) ≡ cond (ltb q r) (takes F X 1 mark (get_or (row_of q ws) c mark)) 0

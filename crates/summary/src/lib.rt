@@ -1,7 +1,9 @@
 // A layer's summary: nothing present, one value throughout, or a smallest and a largest value. Internal: the call open to users is packing's.
 #![tactic(auto)]
 
-ghost use Rattle.std.specs.Prelude.{◌≡◌, cond, min, max, ◌≤◌, eqb};
+ghost use Rattle.std.specs.Prelude.{◌≡◌, cond, ◌≤◌, eqb};
+ghost use Rattle.std.specs.Float.{binary32};
+ghost use Rattle.std.specs.Float.Ieee.{to_bits};
 ghost use Rattle.meaning.specs.Layers.{summary};
 ghost use Rattle.summary.specs.Keys.{key, unkey, lowest, highest, between, Key};
 ghost use Rattle.summary.specs.Summaries.{summary_of, Packable};
@@ -22,43 +24,35 @@ pub struct Ends {
 }
 
 // A number in the order of the values, the same for both zeros.
-fn key_of(w: u32) -> u32
-    ensures { result ≡ key w }
+#[tactic(auto, unfolding(crate::specs::Keys::key))]
+fn key_of(reading: u32) -> u32
+    ensures { result ≡ key reading }
 {
-    if w < 0x8000_0000 {
-        return w + 0x8000_0000;
+    if reading < 0x8000_0000 {
+        reading + 0x8000_0000
+    } else {
+        0x8000_0000 - (reading - 0x8000_0000)
     }
-    0x8000_0000 - (w - 0x8000_0000)
 }
 
 // The reading of a key.
-fn reading_of(k: u32) -> u32
-    requires { Key k }
-    ensures { result ≡ unkey k }
+#[tactic(auto, unfolding(crate::specs::Keys::unkey))]
+fn reading_of(key: u32) -> u32
+    requires { Key key }
+    ensures { result ≡ unkey key }
 {
-    if k < 0x8000_0000 {
-        return (0x8000_0000 - k) + 0x8000_0000;
+    if key < 0x8000_0000 {
+        (0x8000_0000 - key) + 0x8000_0000
+    } else {
+        key - 0x8000_0000
     }
-    k - 0x8000_0000
 }
 
-// `yes` where a and b are equal, `no` where they differ.
+// `yes` where a and b are equal, `no` where they differ. In a loop over readings this stands for an `if`: a proof reads it as one equation, and no branch is left.
 pub fn choose(a: u32, b: u32, yes: u32, no: u32) -> u32
     ensures { result ≡ cond (eqb a b) yes no }
 {
     if a == b { yes } else { no }
-}
-
-pub fn smaller(a: u32, b: u32) -> u32
-    ensures { result ≡ min a b }
-{
-    if a < b { a } else { b }
-}
-
-pub fn larger(a: u32, b: u32) -> u32
-    ensures { result ≡ max a b }
-{
-    if a < b { b } else { a }
 }
 
 // The ends of a run of readings. A missing one counts for the last key at the low end and for the first at the high end, so that it plays no part.
@@ -66,19 +60,22 @@ fn ends_of(readings: &[u32], mark: u32) -> Ends
     ensures low { result.low ≡ lowest mark readings.now }
     ensures high { result.high ≡ highest mark readings.now }
 {
-    let mut low: u32 = 0xffff_ffff;
-    let mut high: u32 = 0;
-    let mut i: usize = 0;
-    while i < readings.len() {
-        let w = readings[i];
-        let k = key_of(w);
-        let a = choose(w, mark, 0xffff_ffff, k);
-        let b = choose(w, mark, 0, k);
-        low = smaller(a, low);
-        high = larger(b, high);
-        i += 1;
+    let mut low = u32::MAX;
+    let mut high = 0;
+    for reading in readings {
+        let key = key_of(*reading);
+        low = choose(*reading, mark, u32::MAX, key).min(low);
+        high = choose(*reading, mark, 0, key).max(high);
     }
     Ends { low, high }
+}
+
+// The value of a key.
+fn value_of(key: u32) -> f32
+    requires { Key key }
+    ensures { to_bits binary32 result ≡ unkey key }
+{
+    f32::from_bits(reading_of(key))
 }
 
 // The summary of two ends.
@@ -86,17 +83,14 @@ fn between_ends(ends: Ends) -> Summary
     requires { ends.low ≤ ends.high → Key ends.low × Key ends.high }
     ensures { summary_of result ≡ between ends.low ends.high }
 {
-    let low = ends.low;
-    let high = ends.high;
+    let Ends { low, high } = ends;
     if high < low {
-        return Summary::Nothing;
+        Summary::Nothing
+    } else if low == high {
+        Summary::Flat(value_of(low))
+    } else {
+        Summary::Spread(value_of(low), value_of(high))
     }
-    let a = f32::from_bits(reading_of(low));
-    if low == high {
-        return Summary::Flat(a);
-    }
-    let z = f32::from_bits(reading_of(high));
-    Summary::Spread(a, z)
 }
 
 // The summary of a run of readings, each of them finite or missing.

@@ -1,183 +1,150 @@
 // A row is held against its kind's shape before it is run, so that nothing is run but what its author wrote. Of a row that doesn't fit, the first fault is printed.
-//
+use crate::fields::{Row, number, part, parts};
+use crate::forms::Form;
+
 // A shape is written as a row is. Its first field is the kind. Of each field after it, it has the name, a colon and the form, a word of which the first letter counts
-// (`has_form`). A question mark follows where the field may be empty. A star and a number follow where it is a list: of up to four items, and of as many as the
+// (`Form::named`). A question mark follows where the field may be empty. A star and a number follow where it is a list: of up to four items, and of as many as the
 // field with that number.
-use crate::fields::{field, first, number, part};
-use crate::forms::{has_form, parts};
-use crate::line::{end, put_number, put_text, start};
+#[derive(Clone, Copy)]
+pub struct Shape<'a>(pub &'a [u8]);
 
-fn name(shape: &[u8], k: usize) -> &[u8] {
-    part(field(shape, k), 0, b':')
-}
-
-fn form(shape: &[u8], k: usize) -> &[u8] {
-    part(field(shape, k), 1, b':')
-}
-
-fn put_wrong(out: &impl Print, row: &[u8]) -> usize {
-    put_text(out, start(out, row), b"WRONG, ")
-}
-
-// The line of a row with a fault, up to the reason: a field's name, and what stands there.
-fn put_fault(out: &impl Print, row: &[u8], name: &[u8], s: &[u8]) -> usize {
-    let at = put_text(out, put_text(out, put_wrong(out, row), name), b" \"");
-    put_text(out, put_text(out, at, s), b"\": ")
-}
-
-fn put_reason(out: &impl Print, at: usize, form: u8) -> usize {
-    match form {
-        b'b' => put_text(out, at, b"not 1, 8 and 23 bits with a space between"),
-        b'c' => put_text(out, at, b"not a number from 0 to 65535"),
-        b'd' => put_text(out, at, b"not 16 digits 0 to 9, A to F in capitals"),
-        b'e' => put_text(out, at, b"this kind has it empty"),
-        b'f' => put_text(out, at, b"not spared, clipped, missing or empty"),
-        b'h' => put_text(out, at, b"not 1 to 16 digits 0 to 9, A to F in capitals"),
-        b'i' => put_text(
-            out,
-            at,
-            b"not a number of 1 to 4 digits, with or without a minus",
-        ),
-        b'l' => put_text(out, at, b"not a number from 0 to 999999999"),
-        b'm' => put_text(out, at, b"not a method's name, nor method and a number"),
-        b'q' => put_text(out, at, b"not a number from 0 to 4"),
-        b'r' => put_text(out, at, b"not a number from 0 to 19"),
-        b's' => put_text(out, at, b"not 8 digits 0 to 9, A to F in capitals"),
-        b'w' => put_text(out, at, b"not a number from 0 to 4294967295"),
-        _ => put_text(
-            out,
-            at,
-            b"not at most 400 bytes, with an n after each backslash",
-        ),
+impl<'a> Shape<'a> {
+    fn kind(self) -> &'a [u8] {
+        part(self.0, 0, b'|')
     }
-}
 
-fn item_fits(out: &impl Print, row: &[u8], name: &[u8], s: &[u8], form: u8) -> bool {
-    if has_form(s, form) {
-        return true;
+    fn fields(self) -> usize {
+        parts(self.0, b'|')
     }
-    put_reason(out, put_fault(out, row, name, s), form);
-    end(out);
-    false
-}
 
-fn items_fit(out: &impl Print, row: &[u8], name: &[u8], s: &[u8], form: u8) -> bool {
-    let n = parts(s, b' ');
-    for i in 0..n {
-        if !item_fits(out, row, name, part(s, i, b' '), form) {
-            return false;
+    fn name(self, k: usize) -> &'a [u8] {
+        part(part(self.0, k, b'|'), 0, b':')
+    }
+
+    // The form's word, and what follows it.
+    fn form(self, k: usize) -> &'a [u8] {
+        part(part(self.0, k, b'|'), 1, b':')
+    }
+
+    fn may_be_empty(self, k: usize) -> bool {
+        self.form(k).contains(&b'?')
+    }
+
+    // Where the field is a list, the number of the field that has as many items.
+    fn as_many_as(self, k: usize) -> Option<usize> {
+        let form = self.form(k);
+        if !form.contains(&b'*') {
+            return None;
         }
+        Some(number(part(form, 1, b'*'), 10) as usize)
     }
-    true
 }
 
-fn too_many(out: &impl Print, row: &[u8], name: &[u8], s: &[u8]) -> bool {
-    put_text(out, put_fault(out, row, name, s), b"more than 4 items");
-    end(out);
-    false
+// What can be wrong with a row.
+#[derive(Clone, Copy, Debug, PartialEq, Eq)]
+pub enum Fault<'a> {
+    ByteOrderMark,
+    CarriageReturn,
+    Miscounted {
+        fields: usize,
+        kind: &'a [u8],
+        wanted: usize,
+    },
+    InField {
+        name: &'a [u8],
+        text: &'a [u8],
+        reason: Reason<'a>,
+    },
 }
 
-fn other_number(out: &impl Print, row: &[u8], name: &[u8], s: &[u8], other: &[u8]) -> bool {
-    let at = put_text(out, put_fault(out, row, name, s), b"not as many items as ");
-    put_text(out, at, other);
-    end(out);
-    false
+// What can be wrong in a field.
+#[derive(Clone, Copy, Debug, PartialEq, Eq)]
+pub enum Reason<'a> {
+    NoKind,
+    NotOfForm(Form),
+    MoreThanFour,
+    OtherNumber(&'a [u8]),
 }
 
-fn list_fits(out: &impl Print, row: &[u8], shape: &[u8], k: usize) -> bool {
-    let s = field(row, k);
-    let called = name(shape, k);
-    let written = form(shape, k);
-    let other = number(part(written, 1, b'*'), 10) as usize;
-    if parts(s, b' ') > 4 {
-        return too_many(out, row, called, s);
+// A list of up to four items, each of the form, and of as many as the field has that it names.
+fn check_list<'a>(row: Row<'a>, shape: Shape<'a>, k: usize, other: usize) -> Result<(), Fault<'a>> {
+    let name = shape.name(k);
+    let text = row.field(k);
+    let form = Form::named(shape.form(k));
+    if parts(text, b' ') > 4 {
+        return Err(Fault::InField {
+            name,
+            text,
+            reason: Reason::MoreThanFour,
+        });
     }
-    if !items_fit(out, row, called, s, first(written)) {
-        return false;
+    for item in text.split(|byte| *byte == b' ') {
+        check_item(name, item, form)?;
     }
-    if parts(s, b' ') != parts(field(row, other), b' ') {
-        return other_number(out, row, called, s, name(shape, other));
+    if parts(text, b' ') != parts(row.field(other), b' ') {
+        return Err(Fault::InField {
+            name,
+            text,
+            reason: Reason::OtherNumber(shape.name(other)),
+        });
     }
-    true
+    Ok(())
 }
 
-fn field_fits(out: &impl Print, row: &[u8], shape: &[u8], k: usize) -> bool {
-    let s = field(row, k);
-    let written = form(shape, k);
-    if s.len() == 0 && parts(written, b'?') == 2 {
-        return true;
+fn check_item<'a>(name: &'a [u8], text: &'a [u8], form: Form) -> Result<(), Fault<'a>> {
+    if form.fits(text) {
+        return Ok(());
     }
-    if parts(written, b'*') == 2 {
-        return list_fits(out, row, shape, k);
-    }
-    item_fits(out, row, name(shape, k), s, first(written))
+    Err(Fault::InField {
+        name,
+        text,
+        reason: Reason::NotOfForm(form),
+    })
 }
 
-fn fields_fit(out: &impl Print, row: &[u8], shape: &[u8]) -> bool {
-    let n = parts(shape, b'|');
-    for k in 0..n {
-        if !field_fits(out, row, shape, k) {
-            return false;
-        }
+fn check_field<'a>(row: Row<'a>, shape: Shape<'a>, k: usize) -> Result<(), Fault<'a>> {
+    if row.is_empty(k) && shape.may_be_empty(k) {
+        return Ok(());
     }
-    true
-}
-
-fn miscounted(out: &impl Print, row: &[u8], shape: &[u8]) -> bool {
-    let at = put_number(out, put_wrong(out, row), parts(row, b'|') as u64);
-    let at = put_text(out, put_text(out, at, b" fields, and "), field(shape, 0));
-    put_number(out, put_text(out, at, b" has "), parts(shape, b'|') as u64);
-    end(out);
-    false
+    match shape.as_many_as(k) {
+        Some(other) => check_list(row, shape, k, other),
+        None => check_item(shape.name(k), row.field(k), Form::named(shape.form(k))),
+    }
 }
 
 // The row's kind is none that there is.
-pub fn no_kind(out: &impl Print, row: &[u8]) -> bool {
-    put_text(
-        out,
-        put_fault(out, row, b"kind", field(row, 0)),
-        b"not a kind of case",
-    );
-    end(out);
-    false
+pub fn no_kind(row: Row<'_>) -> Fault<'_> {
+    Fault::InField {
+        name: b"kind",
+        text: row.field(0),
+        reason: Reason::NoKind,
+    }
 }
 
-// Has the row the shape? Where it hasn't, its line says so.
-pub fn fits(out: &impl Print, row: &[u8], shape: &[u8]) -> bool {
-    if field(row, 0) != field(shape, 0) {
-        return no_kind(out, row);
+// Has the row the shape of its kind?
+pub fn check<'a>(row: Row<'a>, shape: Shape<'a>) -> Result<(), Fault<'a>> {
+    let fields = parts(row.0, b'|');
+    let wanted = shape.fields();
+    if fields != wanted {
+        return Err(Fault::Miscounted {
+            fields,
+            kind: shape.kind(),
+            wanted,
+        });
     }
-    if parts(row, b'|') != parts(shape, b'|') {
-        return miscounted(out, row, shape);
+    for k in 0..wanted {
+        check_field(row, shape, k)?;
     }
-    fields_fit(out, row, shape)
+    Ok(())
 }
 
-fn says(out: &impl Print, row: &[u8], reason: &[u8]) -> bool {
-    put_text(out, put_wrong(out, row), reason);
-    end(out);
-    false
-}
-
-fn has_byte_order_mark(row: &[u8]) -> bool {
-    matches!(row, [0xEF, 0xBB, 0xBF, ..])
-}
-
-// What some editors add to a line and don't show. Where it is there, the row's line says so.
-pub fn is_plain(out: &impl Print, row: &[u8]) -> bool {
-    if has_byte_order_mark(row) {
-        return says(
-            out,
-            row,
-            b"a byte order mark stands before the row: save the sheet as plain text",
-        );
+// Is the row without what some editors add to a line and don't show?
+pub fn check_plain(row: Row<'_>) -> Result<(), Fault<'_>> {
+    if row.0.starts_with(b"\xEF\xBB\xBF") {
+        return Err(Fault::ByteOrderMark);
     }
-    if parts(row, b'\r') > 1 {
-        return says(
-            out,
-            row,
-            b"a carriage return stands in the row: save the sheet with the line ends of Linux, not of Windows",
-        );
+    if row.0.contains(&b'\r') {
+        return Err(Fault::CarriageReturn);
     }
-    true
+    Ok(())
 }

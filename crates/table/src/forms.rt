@@ -1,23 +1,29 @@
-// The forms that a field can have. Each function answers whether a text has one, by the readers that the row is then run with.
-use crate::fields::{number, part};
+// The forms that a field can have.
+use crate::fields::{number, part, parts};
+use std::fmt;
 
-// How many parts the byte `stop` makes of a text: one more than it stands there.
-pub fn parts(s: &[u8], stop: u8) -> usize {
-    let mut n: usize = 1;
-    for byte in s {
-        n = n.wrapping_add((*byte == stop) as usize);
-    }
-    n
+#[derive(Clone, Copy, Debug, PartialEq, Eq)]
+pub enum Form {
+    Any,
+    Bits,
+    Code,
+    Double,
+    Empty,
+    Fate,
+    Hexadecimal,
+    Integer,
+    Length,
+    Method,
+    Quantity,
+    Refusal,
+    Single,
+    Text,
+    Width,
 }
 
 // Digits of the base, and nothing else.
 fn digits(s: &[u8], base: u32) -> bool {
-    for byte in s {
-        if fields_in::digit(*byte) >= base {
-            return false;
-        }
-    }
-    true
+    s.iter().all(|byte| fields_in::digit(*byte).is_some_and(|digit| digit < base))
 }
 
 fn so_many(s: &[u8], n: usize, base: u32) -> bool {
@@ -25,7 +31,7 @@ fn so_many(s: &[u8], n: usize, base: u32) -> bool {
 }
 
 fn at_most(s: &[u8], n: usize, base: u32) -> bool {
-    0 < s.len() && s.len() <= n && digits(s, base)
+    !s.is_empty() && s.len() <= n && digits(s, base)
 }
 
 // A decimal number from 0 to `most`. Eighteen digits fit in 64 bits, whatever they are.
@@ -34,10 +40,7 @@ fn up_to(s: &[u8], most: u64) -> bool {
 }
 
 fn is_integer(s: &[u8]) -> bool {
-    match fields_in::setting_at(s, 0) {
-        fields_in::Setting::Is { value: _, next } => next == s.len(),
-        fields_in::Setting::NoSetting => false,
-    }
+    fields_in::setting_at(s, 0).is_some_and(|read| read.next == s.len())
 }
 
 // `method` and a number that fits in 32 bits.
@@ -48,7 +51,7 @@ fn is_numbered(s: &[u8]) -> bool {
 }
 
 fn is_method(s: &[u8]) -> bool {
-    method_word::method_of(s, 0, s.len()) < 7 || is_numbered(s)
+    method_word::method_of(s, 0, s.len()).is_some() || is_numbered(s)
 }
 
 // Sign, exponent and fraction of a single.
@@ -63,36 +66,78 @@ fn is_fate(s: &[u8]) -> bool {
     matches!(s, b"spared" | b"clipped" | b"missing")
 }
 
-// Each backslash has its n: more than these two the reader of texts doesn't know.
+// Each backslash has its n: more than these two the reader of texts doesn't know. So none stands at the end, nor before another byte.
 fn is_text(s: &[u8]) -> bool {
-    let mut escaped = false;
-    for byte in s {
-        if escaped && *byte != b'n' {
-            return false;
-        }
-        escaped = *byte == b'\\';
-    }
-    !escaped && s.len() <= 400
+    let is_whole = s
+        .split(|byte| *byte == b'\\')
+        .skip(1)
+        .all(|behind| behind.first() == Some(&b'n'));
+    is_whole && s.len() <= 400
 }
 
-// Has the text the form with this letter? `put_reason` says them in words. The kind's own field has no form, and no letter.
-pub fn has_form(s: &[u8], form: u8) -> bool {
-    match form {
-        0 | b'a' => true,
-        b'b' => is_bits(s),
-        b'c' => up_to(s, 65535),
-        b'd' => so_many(s, 16, 16),
-        b'e' => s.len() == 0,
-        b'f' => is_fate(s),
-        b'h' => at_most(s, 16, 16),
-        b'i' => is_integer(s),
-        b'l' => up_to(s, 999999999),
-        b'm' => is_method(s),
-        b'q' => up_to(s, 4),
-        b'r' => up_to(s, 19),
-        b's' => so_many(s, 8, 16),
-        b't' => is_text(s),
-        b'w' => up_to(s, 4294967295),
-        _ => false,
+impl Form {
+    // The form by the first letter of its name. The kind's own field has no form.
+    pub fn named(name: &[u8]) -> Form {
+        match name {
+            [b'b', ..] => Form::Bits,
+            [b'c', ..] => Form::Code,
+            [b'd', ..] => Form::Double,
+            [b'e', ..] => Form::Empty,
+            [b'f', ..] => Form::Fate,
+            [b'h', ..] => Form::Hexadecimal,
+            [b'i', ..] => Form::Integer,
+            [b'l', ..] => Form::Length,
+            [b'm', ..] => Form::Method,
+            [b'q', ..] => Form::Quantity,
+            [b'r', ..] => Form::Refusal,
+            [b's', ..] => Form::Single,
+            [b't', ..] => Form::Text,
+            [b'w', ..] => Form::Width,
+            _ => Form::Any,
+        }
+    }
+
+    // Has the text the form? It is asked by the readers that the row is then run with.
+    pub fn fits(self, s: &[u8]) -> bool {
+        match self {
+            Form::Any => true,
+            Form::Bits => is_bits(s),
+            Form::Code => up_to(s, 65535),
+            Form::Double => so_many(s, 16, 16),
+            Form::Empty => s.is_empty(),
+            Form::Fate => is_fate(s),
+            Form::Hexadecimal => at_most(s, 16, 16),
+            Form::Integer => is_integer(s),
+            Form::Length => up_to(s, 999999999),
+            Form::Method => is_method(s),
+            Form::Quantity => up_to(s, 4),
+            Form::Refusal => up_to(s, 19),
+            Form::Single => so_many(s, 8, 16),
+            Form::Text => is_text(s),
+            Form::Width => up_to(s, 4294967295),
+        }
+    }
+}
+
+// What is said of a text that doesn't have it.
+impl fmt::Display for Form {
+    fn fmt<W: fmt::Write>(&self, f: &mut fmt::Formatter<W>) -> fmt::Result {
+        f.write_str(match self {
+            Form::Any => "",
+            Form::Bits => "not 1, 8 and 23 bits with a space between",
+            Form::Code => "not a number from 0 to 65535",
+            Form::Double => "not 16 digits 0 to 9, A to F in capitals",
+            Form::Empty => "this kind has it empty",
+            Form::Fate => "not spared, clipped, missing or empty",
+            Form::Hexadecimal => "not 1 to 16 digits 0 to 9, A to F in capitals",
+            Form::Integer => "not a number of 1 to 4 digits, with or without a minus",
+            Form::Length => "not a number from 0 to 999999999",
+            Form::Method => "not a method's name, nor method and a number",
+            Form::Quantity => "not a number from 0 to 4",
+            Form::Refusal => "not a number from 0 to 19",
+            Form::Single => "not 8 digits 0 to 9, A to F in capitals",
+            Form::Text => "not at most 400 bytes, with an n after each backslash",
+            Form::Width => "not a number from 0 to 4294967295",
+        })
     }
 }

@@ -1,246 +1,233 @@
-// The lines of the table, written to `out` piece by piece. Each function writes something at the column `at`, and answers the column after it. Where a piece can't be
-// written the table goes on without it.
-use crate::fields::{PLAIN, REFUSED, method, note, signed, source};
+// The lines of the table.
+ghost use Rattle.std.specs.Prelude.{◌≡◌, ◌↔◌, IsTrue, false, MatchResult};
 
-pub fn put_text(out: &impl Print, at: usize, text: &[u8]) -> usize {
-    let _ = out.write_all(text);
-    at.wrapping_add(text.len())
+use crate::call::Call;
+use crate::fate::Fate;
+use crate::faults::{Fault, Reason};
+use crate::fields::Row;
+use refusal::Refusal;
+use std::fmt;
+
+// The table as it is written, piece by piece, and the column that its last line has come to. Where a piece can't be written the table goes on without it.
+pub struct Printer<'a, P: Print> {
+    out: &'a P,
+    column: usize,
 }
 
-fn put(out: &impl Print, at: usize, byte: u8) -> usize {
-    put_text(out, at, &[byte])
-}
-
-pub fn end(out: &impl Print) {
-    let _ = out.write_all(b"\n");
-}
-
-// Spaces up to a column, and one where the text is there already.
-pub fn fill(out: &impl Print, at: usize, column: usize) -> usize {
-    let mut next = put(out, at, b' ');
-    for _ in next..column {
-        next = put(out, next, b' ');
+// By hand, since a derive would ask it of P too.
+impl<P: Print> Drop for Printer<'_, P> {
+    fn drop(self) {
+        let Printer { out: _, column: _ } = self;
     }
-    next
 }
 
-fn digit(value: u64, place: u32) -> u8 {
-    if place >= 16 {
-        return b'0';
+impl<P: Print> fmt::Write for Printer<'_, P> {
+    fn write_str(&mut self, text: &str) -> fmt::Result {
+        self.put_bytes(text.as_bytes());
+        Ok(())
     }
-    let d = (value >> (4 * place)) % 16;
-    if d < 10 {
-        return b'0' + d as u8;
+}
+
+// A reading as it is printed: a single by 8 digits, a double by 16.
+pub trait Pattern: Copy {
+    fn write<W: fmt::Write>(self, out: &mut W) -> fmt::Result;
+}
+
+impl Pattern for u32 {
+    fn write<W: fmt::Write>(self, out: &mut W) -> fmt::Result {
+        write!(out, "{self:08X}")
     }
-    b'A' + (d - 10) as u8
 }
 
-// A pattern of so many digits.
-fn put_hex(out: &impl Print, at: usize, value: u64, digits: u32) -> usize {
-    let mut next = at;
-    for place in (0..digits).rev() {
-        next = put(out, next, digit(value, place));
+impl Pattern for u64 {
+    fn write<W: fmt::Write>(self, out: &mut W) -> fmt::Result {
+        write!(out, "{self:016X}")
     }
-    next
 }
 
-// A single's pattern at a column.
-pub fn single_at(out: &impl Print, at: usize, column: usize, x: u32) -> usize {
-    put_hex(out, fill(out, at, column), x as u64, 8)
-}
-
-// A double's pattern at a column.
-pub fn double_at(out: &impl Print, at: usize, column: usize, x: u64) -> usize {
-    put_hex(out, fill(out, at, column), x, 16)
-}
-
-pub fn put_number(out: &impl Print, at: usize, n: u64) -> usize {
-    let mut digits = itoa::Buffer::new();
-    put_text(out, at, digits.format(n).as_bytes())
-}
-
-// A number without its sign.
-fn size(n: i32) -> u64 {
-    if n < 0 {
-        return (0 - n as i64) as u64;
+impl<'a, P: Print> Printer<'a, P> {
+    pub fn new(out: &'a P) -> Self {
+        Printer { out, column: 0 }
     }
-    n as u64
-}
 
-pub fn put_signed(out: &impl Print, at: usize, n: i32) -> usize {
-    if n < 0 {
-        return put_number(out, put(out, at, b'-'), size(n));
+    // Bytes of a sheet, which need not be text.
+    pub fn put_bytes(&mut self, bytes: &[u8]) {
+        let _ = self.out.write_all(bytes);
+        self.column = self.column.wrapping_add(bytes.len());
     }
-    put_number(out, at, size(n))
-}
 
-// The first n of four patterns, with a space before each; likewise the lists below.
-pub fn put_singles(out: &impl Print, at: usize, all: [u32; 4], n: usize) -> usize {
-    let mut next = at;
-    for (i, x) in all.iter().enumerate() {
-        if i < n {
-            next = single_at(out, next, 0, *x);
+    pub fn put<D: fmt::Display + Drop>(&mut self, text: D) {
+        let _ = fmt::Write::write(self, text);
+    }
+
+    pub fn end(&mut self) {
+        self.put("\n");
+        self.column = 0;
+    }
+
+    // Spaces up to a column, and one where the text is there already.
+    pub fn fill(&mut self, column: usize) {
+        self.put(" ");
+        for _ in self.column..column {
+            self.put(" ");
         }
     }
-    next
-}
 
-// Doubles.
-pub fn put_doubles(out: &impl Print, at: usize, all: [u64; 4], n: usize) -> usize {
-    let mut next = at;
-    for (i, x) in all.iter().enumerate() {
-        if i < n {
-            next = double_at(out, next, 0, *x);
+    // A pattern at a column.
+    pub fn pattern_at<T: Pattern>(&mut self, column: usize, pattern: T) {
+        self.fill(column);
+        let _ = pattern.write(self);
+    }
+
+    // Patterns, with a space before each.
+    pub fn patterns<T: Pattern>(&mut self, all: &[T]) {
+        for pattern in all {
+            self.pattern_at(0, *pattern);
         }
     }
-    next
-}
 
-// Whole numbers, such as widths.
-pub fn put_numbers(out: &impl Print, at: usize, all: [u32; 4], n: usize) -> usize {
-    let mut next = at;
-    for (i, x) in all.iter().enumerate() {
-        if i < n {
-            next = put_number(out, put(out, next, b' '), *x as u64);
+    // Widths, codes or step exponents, likewise.
+    pub fn numbers<T: fmt::Display>(&mut self, all: &[T]) {
+        for x in all {
+            self.put(format_args!(" {x}"));
         }
     }
-    next
-}
 
-// Codes.
-pub fn put_codes(out: &impl Print, at: usize, all: [u16; 4], n: usize) -> usize {
-    let numbers = [all[0] as u32, all[1] as u32, all[2] as u32, all[3] as u32];
-    put_numbers(out, at, numbers, n)
-}
-
-// Step exponents.
-pub fn put_exponents(out: &impl Print, at: usize, all: [i32; 4], n: usize) -> usize {
-    let mut next = at;
-    for (i, x) in all.iter().enumerate() {
-        if i < n {
-            next = put_signed(out, put(out, next, b' '), *x);
+    // A text on one line: the end of a line shows as \n.
+    pub fn shown(&mut self, text: &[u8]) {
+        for byte in text {
+            match *byte {
+                b'\n' => self.put("\\n"),
+                other => self.put_bytes(&[other]),
+            }
         }
     }
-    next
-}
 
-fn put_char(out: &impl Print, at: usize, byte: u8) -> usize {
-    if byte == b'\n' {
-        return put_text(out, at, b"\\n");
+    // The source of a row's case, and then spaces to column 22.
+    pub fn start(&mut self, row: Row<'_>) {
+        self.put_bytes(row.source());
+        self.fill(22);
     }
-    put(out, at, byte)
-}
 
-// A text on one line: the end of a line shows as \n.
-pub fn put_shown(out: &impl Print, at: usize, text: &[u8]) -> usize {
-    let mut next = at;
-    for byte in text {
-        next = put_char(out, next, *byte);
+    // The same, and the call.
+    pub fn start_call(&mut self, row: Row<'_>, call: Call) {
+        self.start(row);
+        self.put(call);
     }
-    next
-}
 
-fn put_method(out: &impl Print, at: usize, method: u32) -> usize {
-    match method {
-        0 => put_text(out, at, b"shave"),
-        1 => put_text(out, at, b"set"),
-        2 => put_text(out, at, b"groom"),
-        3 => put_text(out, at, b"halfshave"),
-        4 => put_text(out, at, b"round"),
-        5 => put_text(out, at, b"absolute"),
-        6 => put_text(out, at, b"digits"),
-        _ => put_number(out, put_text(out, at, b"method "), method as u64),
+    // The source before a list, whose items have a space before each.
+    pub fn start_list(&mut self, row: Row<'_>) {
+        self.put_bytes(row.source());
+        self.fill(21);
     }
-}
 
-pub fn put_call(out: &impl Print, at: usize, method: u32, setting: i32) -> usize {
-    put_signed(out, put(out, put_method(out, at, method), b' '), setting)
-}
-
-// The source of a row's case, and then spaces to column 22.
-pub fn start(out: &impl Print, row: &[u8]) -> usize {
-    fill(out, put_text(out, 0, source(row)), 22)
-}
-
-// The same, and the call: method in field 2, setting in field 3.
-pub fn start_call(out: &impl Print, row: &[u8]) -> usize {
-    put_call(out, start(out, row), method(row, 2), signed(row, 3))
-}
-
-// The source before a list, whose items have a space before each.
-pub fn start_list(out: &impl Print, row: &[u8]) -> usize {
-    fill(out, put_text(out, 0, source(row)), 21)
-}
-
-// "accepted", or "refused" and the number.
-fn put_answer(out: &impl Print, at: usize, number: u32) -> usize {
-    if number == 0 {
-        return put_text(out, at, b"accepted");
+    // Some cases take three lines: what is given, and then these two.
+    pub fn expecting(&mut self) {
+        self.end();
+        self.put("  expected");
+        self.fill(21);
     }
-    put_number(out, put_text(out, at, b"refused "), number as u64)
-}
 
-// Some cases take three lines: what is given, and then these two.
-pub fn expecting(out: &impl Print) -> usize {
-    fill(out, put_text(out, 0, b"  expected"), 21)
-}
-
-pub fn getting(out: &impl Print) -> usize {
-    fill(out, put_text(out, 0, b"  got"), 21)
-}
-
-fn put_verdict(out: &impl Print, at: usize, ok: bool) -> usize {
-    if ok {
-        return put_text(out, at, b"ok");
+    pub fn getting(&mut self) {
+        self.end();
+        self.put("  got");
+        self.fill(21);
     }
-    put_text(out, at, b"WRONG")
-}
 
-fn put_fate(out: &impl Print, at: usize, fate: u32) -> usize {
-    match fate {
-        0 => at,
-        1 => put_text(out, at, b", spared"),
-        2 => put_text(out, at, b", clipped"),
-        3 => put_text(out, at, b", missing"),
-        4 => put_text(out, at, b", refused"),
-        _ => put_text(out, at, b", with counts that contradict it"),
+    // Ends a case's line with the verdict, what the library's counts say, and the note.
+    pub fn judge_fate(&mut self, row: Row<'_>, ok: bool, fate: Fate) -> bool
+        ensures { result ≡ ok }
+    {
+        self.put(if ok { "ok" } else { "WRONG" });
+        self.put(fate);
+        self.put_bytes(row.note());
+        self.end();
+        ok
     }
-}
 
-// Ends a case's line with the verdict, what the library's counts say, and the note.
-pub fn judge_fate(out: &impl Print, row: &[u8], at: usize, ok: bool, fate: u32) -> bool {
-    put_text(
-        out,
-        put_fate(out, put_verdict(out, at, ok), fate),
-        note(row),
-    );
-    end(out);
-    ok
-}
-
-// Ends a case's line with the verdict and the note.
-pub fn judge(out: &impl Print, row: &[u8], at: usize, ok: bool) -> bool {
-    judge_fate(out, row, at, ok, PLAIN)
-}
-
-// The same of a case whose call has to be accepted: refused, it is wrong whatever stands there.
-pub fn judge_accepted(out: &impl Print, row: &[u8], at: usize, ok: bool, refused: bool) -> bool {
-    if refused {
-        return judge_fate(out, row, at, false, REFUSED);
+    // Ends a case's line with the verdict and the note.
+    pub fn judge(&mut self, row: Row<'_>, ok: bool) -> bool
+        ensures { result ≡ ok }
+    {
+        self.judge_fate(row, ok, Fate::Plain)
     }
-    judge(out, row, at, ok)
-}
 
-// The last columns of a case about a question: the expected answer, the one that came, and the verdict.
-pub fn answered(
-    out: &impl Print,
-    row: &[u8],
-    at: usize,
-    expected: u32,
-    got: u32,
-    ok: bool,
-) -> bool {
-    let at = put_answer(out, fill(out, at, 86), expected);
-    let at = put_answer(out, fill(out, at, 97), got);
-    judge(out, row, fill(out, at, 108), ok && got == expected)
+    // The same of a case whose call has to be accepted: refused, it is wrong whatever stands there.
+    pub fn judge_accepted(&mut self, row: Row<'_>, answer: Result<bool, Refusal>) -> bool
+        ensures { MatchResult answer (λ ok. result ≡ ok) (λ _. result ≡ false) }
+    {
+        match answer {
+            Ok(ok) => self.judge(row, ok),
+            Err(_) => self.judge_fate(row, false, Fate::Refused),
+        }
+    }
+
+    // "accepted", or "refused" and the number.
+    fn put_answer(&mut self, number: Option<u32>) {
+        match number {
+            None => self.put("accepted"),
+            Some(number) => self.put(format_args!("refused {number}")),
+        }
+    }
+
+    // The last columns of a case about a question: the refusal that is expected, the one that came, and the verdict.
+    pub fn answered(
+        &mut self,
+        row: Row<'_>,
+        expected: Option<u32>,
+        got: Option<u32>,
+        ok: bool,
+    ) -> bool
+        ensures { IsTrue result ↔ (IsTrue ok × (got ≡ expected)) }
+    {
+        self.fill(86);
+        self.put_answer(expected);
+        self.fill(97);
+        self.put_answer(got);
+        self.fill(108);
+        self.judge(row, ok && got == expected)
+    }
+
+    fn put_reason(&mut self, reason: Reason<'_>) {
+        match reason {
+            Reason::NoKind => self.put("not a kind of case"),
+            Reason::NotOfForm(form) => self.put(form),
+            Reason::MoreThanFour => self.put("more than 4 items"),
+            Reason::OtherNumber(other) => {
+                self.put("not as many items as ");
+                self.put_bytes(other);
+            }
+        }
+    }
+
+    // The line of a row that can't be run.
+    pub fn put_fault(&mut self, row: Row<'_>, fault: Fault<'_>) {
+        self.start(row);
+        self.put("WRONG, ");
+        match fault {
+            Fault::ByteOrderMark => {
+                self.put("a byte order mark stands before the row: save the sheet as plain text");
+            }
+            Fault::CarriageReturn => self.put(
+                "a carriage return stands in the row: save the sheet with the line ends of Linux, not of Windows",
+            ),
+            Fault::Miscounted {
+                fields,
+                kind,
+                wanted,
+            } => {
+                self.put(format_args!("{fields} fields, and "));
+                self.put_bytes(kind);
+                self.put(format_args!(" has {wanted}"));
+            }
+            Fault::InField { name, text, reason } => {
+                self.put_bytes(name);
+                self.put(" \"");
+                self.put_bytes(text);
+                self.put("\": ");
+                self.put_reason(reason);
+            }
+        }
+        self.end();
+    }
 }

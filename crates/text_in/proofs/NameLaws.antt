@@ -1,20 +1,22 @@
 -- The loop that reads the names, the header, and the job line, over plain lists.
 use Prim.Native.Nat.{ℕ, suc, ◌+◌, ◌-◌, ◌≤◌, ◌<◌}
 use native.Mathlib.Omega.{arith}
-use native.Mathlib.Numerals.{add-one}
 use mathlib.Core.Path.{◌≡◌, refl, sym, ap, ◌∙◌}
 use mathlib.Core.Bool.{Bool, true, false, cond}
 use mathlib.Core.List.{List, [], ◌∷◌, ◌++◌, append_assoc}
 use lib.IntN.{ℤ}
 use lib.Dec.{eqb}
-use lib.ListN.{length, take, drop, get_or, length-append, length-drop, drop_of_length-le}
-use lib.Seq.{drop-cons, drop-drop}
+use lib.ListN.{length, take, drop, length-append, length-drop}
+use lib.Seq.{drop-drop}
 use borrow.Author.Tests.{eq-eqb, ne_eqb}
 use Rattle.form.specs.Form.{bytes, JobValues, header, is_letter, is_digit}
 use Rattle.form.specs.Parse.{Got, got, bad, then, run_of, read_run, skip, after_name, read_names, followed, read_job_values, read_sign, read_pattern}
 use Rattle.form.specs.Output.{setting_of}
 use Rattle.fields_in.specs.Fields.{read_setting}
-use Rattle.text_in.specs.Places.{NamesAt, StartAt}
+use Rattle.std.proofs.Common.{Some, None, ◌&&◌}
+use Rattle.std.proofs.lemmas.Bool.{false≢true, eqb-true}
+use Rattle.std.specs.Str.{bytes_eq}
+use Rattle.text_in.specs.Places.{NamesAt, StartAt, EndingRead, header_got}
 use Rattle.form.proofs.Reading.{skip_sound}
 use Rattle.fields_in.proofs.Walk.{run_take, run_short}
 use Rattle.text_in.proofs.RowLaws.{byte_within}
@@ -71,9 +73,6 @@ joined : (rs : List (List ℕ)) (r : List ℕ) (g : Got (List (List ℕ))) → t
 joined rs r (got us s) = ap (λ (l : List (List ℕ)). got l s) (sym (append_assoc rs (r ∷ []) us))
 joined rs r bad = refl
 
-pub names_start : (t : List ℕ) (at : ℕ) → at ≤ length t → NamesTurn t at 0 at
-names_start t at h = record { low = omega arith; within = h; names = []; count = refl; read = same_got (read_names 8 (drop at t)) }
-
 module _ (t : List ℕ) (at k p : ℕ) (x : NamesTurn t at k p) (h : k < 8) (n : ℕ) (e : n ≡ length (run_of is_letter 16 (drop p t))) where
   opened : read_names 8 (drop at t) ≡ then (then (read_run is_letter 16 (drop p t)) (λ w s. after_name w (read_names (8 - (k + 1))) s)) (λ us s. got (x.names ++ us) s)
   unfolding read_names
@@ -85,64 +84,50 @@ module _ (t : List ℕ) (at k p : ℕ) (x : NamesTurn t at k p) (h : k < 8) (n :
   named : (n ≡ 0 → ⊥) → read_names 8 (drop at t) ≡ then (after_name (take n (drop p t)) (read_names (8 - (k + 1))) (drop (p + n) t)) (λ us s. got (x.names ++ us) s)
   named z = opened ∙ ap (λ (g : Got (List ℕ)). then (then g (λ w s. after_name w (read_names (8 - (k + 1))) s)) (λ us s. got (x.names ++ us) s)) (run_some is_letter 16 t p n e z)
 
-  pub names_last : (n ≡ 0 → ⊥) → skip (10 ∷ []) (drop (p + n) t) ≡ got tt (drop (p + n + 1) t) → NamesAt t at (k + 1) (p + n + 1)
-  names_last z f = record {
+  pub names_last : (n ≡ 0 → ⊥) → (next : ℕ) → EndingRead t (p + n) 0 (Some next) → NamesAt t at (k + 1) next
+  names_last z next f = record {
     names = x.names ++ (take n (drop p t) ∷ []);
-    read = named z ∙ ap (λ (g : Got (List (List ℕ))). then g (λ us s. got (x.names ++ us) s)) (name_last (take n (drop p t)) (read_names (8 - (k + 1))) (drop (p + n) t) (drop (p + n + 1) t) f);
+    read = named z ∙ ap (λ (g : Got (List (List ℕ))). then g (λ us s. got (x.names ++ us) s)) (name_last (take n (drop p t)) (read_names (8 - (k + 1))) (drop (p + n) t) (drop next t) f.0);
     count = length-append x.names (take n (drop p t) ∷ []) ∙ ap (λ (m : ℕ). m + 1) x.count;
-    within = let b = byte_within t (p + n) 10 tt (drop (p + n + 1) t) f in omega arith;
+    within = f.1;
   }
 
-  pub names_bad : (n ≡ 0 → ⊥) → skip (10 ∷ []) (drop (p + n) t) ≡ bad → skip (44 ∷ []) (drop (p + n) t) ≡ bad → read_names 8 (drop at t) ≡ bad
+  pub names_bad : (n ≡ 0 → ⊥) → EndingRead t (p + n) 0 None → EndingRead t (p + n) 1 None → read_names 8 (drop at t) ≡ bad
   names_bad z f g = named z ∙ ap (λ (g : Got (List (List ℕ))). then g (λ us s. got (x.names ++ us) s)) (name_bad (take n (drop p t)) (read_names (8 - (k + 1))) (drop (p + n) t) f g)
 
-  pub names_turn : (n ≡ 0 → ⊥) → skip (44 ∷ []) (drop (p + n) t) ≡ got tt (drop (p + n + 1) t) → NamesTurn t at (k + 1) (p + n + 1)
-  names_turn z f = record {
+  pub names_turn : (n ≡ 0 → ⊥) → (next : ℕ) → EndingRead t (p + n) 1 (Some next) → NamesTurn t at (k + 1) next
+  names_turn z next f = record {
     low = omega arith;
-    within = let b = byte_within t (p + n) 44 tt (drop (p + n + 1) t) f in omega arith;
+    within = f.1;
     names = x.names ++ (take n (drop p t) ∷ []);
     count = length-append x.names (take n (drop p t) ∷ []) ∙ ap (λ (m : ℕ). m + 1) x.count;
     read =
         named z
-        ∙ ap (λ (g : Got (List (List ℕ))). then g (λ us s. got (x.names ++ us) s)) (name_more (take n (drop p t)) (read_names (8 - (k + 1))) (drop (p + n) t) (drop (p + n + 1) t) f)
-        ∙ joined x.names (take n (drop p t)) (read_names (8 - (k + 1)) (drop (p + n + 1) t));
+        ∙ ap (λ (g : Got (List (List ℕ))). then g (λ us s. got (x.names ++ us) s)) (name_more (take n (drop p t)) (read_names (8 - (k + 1))) (drop (p + n) t) (drop next t) f.0)
+        ∙ joined x.names (take n (drop p t)) (read_names (8 - (k + 1)) (drop next t));
   }
 
 pub names_many : (t : List ℕ) (at k p : ℕ) → NamesTurn t at k p → 8 ≤ k → read_names 8 (drop at t) ≡ bad
 unfolding read_names
 names_many t at k p x h = let l = x.low in x.read ∙ ap (λ (m : ℕ). then (read_names m (drop p t)) (λ us s. got (x.names ++ us) s)) {x = 8 - k} {y = 0} (omega arith)
 
--- ---- the header: i of its bytes stand there
-pub record HeaderTurn (s : List ℕ) (i : ℕ) : Type 0 where
-  pub low : i ≤ 20
-  pub within : i ≤ length s
-  pub same : skip header s ≡ skip (drop i header) (drop i s)
+-- ---- the header, by the library's comparison
+skip_starts : (l s : List ℕ) (r : Bool) → r ≡ bytes_eq l (take (length l) s) → skip l s ≡ cond r (got tt (drop (length l) s)) bad
+unfolding skip
+skip_starts [] s r e = ap (λ (b : Bool). cond b (got tt s) bad) (sym e)
+skip_starts (a ∷ l) [] r e = ap (λ (b : Bool). cond b (got tt (drop (length (a ∷ l)) [])) bad) (sym e)
+skip_starts (a ∷ l) (b ∷ s) r e = go (eqb a b) refl (skip_starts l s r)
+  where
+    go : (x : Bool) → eqb a b ≡ x → (r ≡ bytes_eq l (take (length l) s) → skip l s ≡ cond r (got tt (drop (length l) s)) bad) → cond (eqb b a) (skip l s) bad ≡ cond r (got tt (drop (length l) s)) bad
+    go true f i = ap (λ (t : Bool). cond t (skip l s) bad) (eq-eqb b a (sym (eqb-true a b f))) ∙ i (e ∙ ap (λ (t : Bool). t && bytes_eq l (take (length l) s)) f)
+    go false f i =
+        ap (λ (t : Bool). cond t (skip l s) bad) (ne_eqb b a (λ k. false≢true (sym f ∙ eq-eqb a b (sym k))))
+        ∙ ap (λ (t : Bool). cond t (got tt (drop (length l) s)) bad) (sym (e ∙ ap (λ (t : Bool). t && bytes_eq l (take (length l) s)) f))
 
-pub header_start : (s : List ℕ) → HeaderTurn s 0
-header_start s = record { low = omega arith; within = omega arith; same = refl }
-
-module _ (s : List ℕ) (i : ℕ) (x : HeaderTurn s i) (h : i < 20) where
-  pub header_ended : length s ≤ i → skip header s ≡ bad
-  unfolding skip header bytes
-  header_ended k = x.same ∙ ap (skip (drop i header)) (drop_of_length-le s {i = i} k) ∙ ap (λ (l : List ℕ). skip l []) (drop-cons header i 0 h)
-
-  header_opened : i < length s → skip header s ≡ cond (eqb (get_or s i 0) (get_or header i 0)) (skip (drop (suc i) header) (drop (suc i) s)) bad
-  unfolding skip header bytes
-  header_opened k = x.same ∙ ap (skip (drop i header)) (drop-cons s i 0 k) ∙ ap (λ (l : List ℕ). skip l (get_or s i 0 ∷ drop (suc i) s)) (drop-cons header i 0 h)
-
-  pub header_stopped : i < length s → (get_or s i 0 ≡ get_or header i 0 → ⊥) → skip header s ≡ bad
-  header_stopped k e = header_opened k ∙ ap (λ (b : Bool). cond b (skip (drop (suc i) header) (drop (suc i) s)) bad) (ne_eqb (get_or s i 0) (get_or header i 0) e)
-
-  pub header_turn : i < length s → get_or s i 0 ≡ get_or header i 0 → HeaderTurn s (i + 1)
-  header_turn k e = record {
-    low = omega arith;
-    within = omega arith;
-    same = header_opened k ∙ ap (λ (b : Bool). cond b (skip (drop (suc i) header) (drop (suc i) s)) bad) (eq-eqb (get_or s i 0) (get_or header i 0) e) ∙ ap (λ (j : ℕ). skip (drop j header) (drop j s)) (sym (add-one i));
-  }
-
-pub header_done : (s : List ℕ) (i : ℕ) → HeaderTurn s i → 20 ≤ i → skip header s ≡ got tt (drop 20 s)
-unfolding skip header bytes
-header_done s i x h = let l = x.low in let e : i ≡ 20 = omega arith in x.same ∙ ap (λ (j : ℕ). skip (drop j header) (drop j s)) e
+pub header_starts : (s : List ℕ) (r : Bool) → r ≡ bytes_eq header (take 20 s) → skip header s ≡ header_got s r
+unfolding header bytes
+header_starts s true e = skip_starts header s true e
+header_starts s false e = skip_starts header s false e
 
 -- ---- the job line
 followed_yes : {A : Type 0} (c : ℕ) (g : Got A) (a : A) (l r : List ℕ) → g ≡ got a l → skip (c ∷ []) l ≡ got tt r → followed c g ≡ got a r
@@ -210,48 +195,49 @@ module _ (t : List ℕ) (at n : ℕ) (e : n ≡ length (run_of is_letter 16 (dro
   pub start_none : n ≡ 0 → read_job_values (drop at t) ≡ bad
   start_none z = opens (drop at t) ∙ ap (λ (g : Got (List ℕ)). then g (λ w s. tail_setting w s)) (followed_bad 44 (read_run is_letter 16 (drop at t)) (run_none is_letter 16 t at n e z))
 
-  pub start_unparted : (n ≡ 0 → ⊥) → skip (44 ∷ []) (drop (at + n) t) ≡ bad → read_job_values (drop at t) ≡ bad
+  pub start_unparted : (n ≡ 0 → ⊥) → EndingRead t (at + n) 1 None → read_job_values (drop at t) ≡ bad
   start_unparted z f = opens (drop at t) ∙ ap (λ (g : Got (List ℕ)). then g (λ w s. tail_setting w s)) (followed_no 44 (read_run is_letter 16 (drop at t)) (take n (drop at t)) (drop (at + n) t) (run_some is_letter 16 t at n e z) f)
 
-  module _ (z : n ≡ 0 → ⊥) (f : skip (44 ∷ []) (drop (at + n) t) ≡ got tt (drop (at + n + 1) t)) where
-    worded : read_job_values (drop at t) ≡ tail_setting (take n (drop at t)) (drop (at + n + 1) t)
-    worded = opens (drop at t) ∙ ap (λ (g : Got (List ℕ)). then g (λ w s. tail_setting w s)) (followed_yes 44 (read_run is_letter 16 (drop at t)) (take n (drop at t)) (drop (at + n) t) (drop (at + n + 1) t) (run_some is_letter 16 t at n e z) f)
+  module _ (z : n ≡ 0 → ⊥) (b : ℕ) (f : EndingRead t (at + n) 1 (Some b)) where
+    worded : read_job_values (drop at t) ≡ tail_setting (take n (drop at t)) (drop b t)
+    worded = opens (drop at t) ∙ ap (λ (g : Got (List ℕ)). then g (λ w s. tail_setting w s)) (followed_yes 44 (read_run is_letter 16 (drop at t)) (take n (drop at t)) (drop (at + n) t) (drop b t) (run_some is_letter 16 t at n e z) f.0)
 
-    pub start_unset : read_setting (drop (at + n + 1) t) ≡ bad → read_job_values (drop at t) ≡ bad
-    start_unset g = worded ∙ unset (take n (drop at t)) (drop (at + n + 1) t) g
+    pub start_unset : read_setting (drop b t) ≡ bad → read_job_values (drop at t) ≡ bad
+    start_unset g = worded ∙ unset (take n (drop at t)) (drop b t) g
 
-    module _ (v : ℤ) (p : ℕ) (g : read_setting (drop (at + n + 1) t) ≡ got v (drop p t)) where
-      signs : (x : Parts (drop (at + n + 1) t) v (drop p t)) → read_job_values (drop at t) ≡ then (followed 44 (read_run is_digit 4 x.mid)) (λ d s. tail_mark (take n (drop at t)) x.minus d s)
+    module _ (v : ℤ) (p : ℕ) (g : read_setting (drop b t) ≡ got v (drop p t)) where
+      signs : (x : Parts (drop b t) v (drop p t)) → read_job_values (drop at t) ≡ then (followed 44 (read_run is_digit 4 x.mid)) (λ d s. tail_mark (take n (drop at t)) x.minus d s)
       signs x = worded ∙ ap (λ (g : Got Bool). then g (λ m s. then (followed 44 (read_run is_digit 4 s)) (λ d s. tail_mark (take n (drop at t)) m d s))) x.signed
 
-      pub start_unparted_2 : skip (44 ∷ []) (drop p t) ≡ bad → read_job_values (drop at t) ≡ bad
+      pub start_unparted_2 : EndingRead t p 1 None → read_job_values (drop at t) ≡ bad
       start_unparted_2 h =
-          let x = parts (drop (at + n + 1) t) v (drop p t) g in
+          let x = parts (drop b t) v (drop p t) g in
           signs x ∙ ap (λ (g : Got (List ℕ)). then g (λ d s. tail_mark (take n (drop at t)) x.minus d s)) (followed_no 44 (read_run is_digit 4 x.mid) x.digits (drop p t) x.numbered h)
 
-      module _ (h : skip (44 ∷ []) (drop p t) ≡ got tt (drop (p + 1) t)) where
-        marks : (x : Parts (drop (at + n + 1) t) v (drop p t)) → read_job_values (drop at t) ≡ tail_mark (take n (drop at t)) x.minus x.digits (drop (p + 1) t)
-        marks x = signs x ∙ ap (λ (g : Got (List ℕ)). then g (λ d s. tail_mark (take n (drop at t)) x.minus d s)) (followed_yes 44 (read_run is_digit 4 x.mid) x.digits (drop p t) (drop (p + 1) t) x.numbered h)
+      module _ (q : ℕ) (h : EndingRead t p 1 (Some q)) where
+        marks : (x : Parts (drop b t) v (drop p t)) → read_job_values (drop at t) ≡ tail_mark (take n (drop at t)) x.minus x.digits (drop q t)
+        marks x = signs x ∙ ap (λ (g : Got (List ℕ)). then g (λ d s. tail_mark (take n (drop at t)) x.minus d s)) (followed_yes 44 (read_run is_digit 4 x.mid) x.digits (drop p t) (drop q t) x.numbered h.0)
 
-        pub start_unmarked : read_pattern (drop (p + 1) t) ≡ bad → read_job_values (drop at t) ≡ bad
+        pub start_unmarked : read_pattern (drop q t) ≡ bad → read_job_values (drop at t) ≡ bad
         start_unmarked i =
-            let x = parts (drop (at + n + 1) t) v (drop p t) g in
-            marks x ∙ ap (λ (g : Got ℕ). then g (λ k s. got (record { word = take n (drop at t); minus = x.minus; digits = x.digits; mark = k }) s)) (followed_bad 10 (read_pattern (drop (p + 1) t)) i)
+            let x = parts (drop b t) v (drop p t) g in
+            marks x ∙ ap (λ (g : Got ℕ). then g (λ k s. got (record { word = take n (drop at t); minus = x.minus; digits = x.digits; mark = k }) s)) (followed_bad 10 (read_pattern (drop q t)) i)
 
-        pub start_unended : (m : ℕ) → read_pattern (drop (p + 1) t) ≡ got m (drop (p + 1 + 8) t) → skip (10 ∷ []) (drop (p + 1 + 8) t) ≡ bad → read_job_values (drop at t) ≡ bad
-        start_unended m i j =
-            let x = parts (drop (at + n + 1) t) v (drop p t) g in
-            marks x ∙ ap (λ (g : Got ℕ). then g (λ k s. got (record { word = take n (drop at t); minus = x.minus; digits = x.digits; mark = k }) s)) (followed_no 10 (read_pattern (drop (p + 1) t)) m (drop (p + 1 + 8) t) i j)
+        module _ (m : ℕ) (i : read_pattern (drop q t) ≡ got m (drop (q + 8) t)) where
+          pub start_unended : EndingRead t (q + 8) 0 None → read_job_values (drop at t) ≡ bad
+          start_unended j =
+              let x = parts (drop b t) v (drop p t) g in
+              marks x ∙ ap (λ (g : Got ℕ). then g (λ k s. got (record { word = take n (drop at t); minus = x.minus; digits = x.digits; mark = k }) s)) (followed_no 10 (read_pattern (drop q t)) m (drop (q + 8) t) i j)
 
-        pub start_done : (m : ℕ) → read_pattern (drop (p + 1) t) ≡ got m (drop (p + 1 + 8) t) → skip (10 ∷ []) (drop (p + 1 + 8) t) ≡ got tt (drop (p + 1 + 8 + 1) t) → StartAt t at n v m (p + 1 + 8 + 1)
-        start_done m i j =
-            let x = parts (drop (at + n + 1) t) v (drop p t) g in
-            record {
-              values = record { word = take n (drop at t); minus = x.minus; digits = x.digits; mark = m };
-              read = marks x ∙ ap (λ (g : Got ℕ). then g (λ k s. got (record { word = take n (drop at t); minus = x.minus; digits = x.digits; mark = k }) s)) (followed_yes 10 (read_pattern (drop (p + 1) t)) m (drop (p + 1 + 8) t) (drop (p + 1 + 8 + 1) t) i j);
-              word = refl;
-              setting = x.value;
-              marked = refl;
-              inside = let b = byte_within t (at + n) 44 tt (drop (at + n + 1) t) f in omega arith;
-              within = let b = byte_within t (p + 1 + 8) 10 tt (drop (p + 1 + 8 + 1) t) j in omega arith;
-            }
+          pub start_done : (next : ℕ) → EndingRead t (q + 8) 0 (Some next) → StartAt t at n v m next
+          start_done next j =
+              let x = parts (drop b t) v (drop p t) g in
+              record {
+                values = record { word = take n (drop at t); minus = x.minus; digits = x.digits; mark = m };
+                read = marks x ∙ ap (λ (g : Got ℕ). then g (λ k s. got (record { word = take n (drop at t); minus = x.minus; digits = x.digits; mark = k }) s)) (followed_yes 10 (read_pattern (drop q t)) m (drop (q + 8) t) (drop next t) i j.0);
+                word = refl;
+                setting = x.value;
+                marked = refl;
+                inside = let y = byte_within t (at + n) 44 tt (drop b t) f.0 in omega arith;
+                within = j.1;
+              }

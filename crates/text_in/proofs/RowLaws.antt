@@ -5,20 +5,12 @@ use native.Mathlib.Nat.{sub-zero}
 use mathlib.Core.Path.{◌≡◌, refl, sym, ap, ◌∙◌}
 use mathlib.Core.List.{List, [], ◌∷◌, ◌++◌, append_assoc, append-nil}
 use lib.ListN.{length, drop, set, length-append, length-drop, length-set}
-use Rattle.form.specs.Form.{pattern}
 use Rattle.form.specs.Parse.{Got, got, bad, then, read_pattern, skip, ending, read_row}
-use Rattle.text_in.specs.Places.{spread, RowAt}
-use Rattle.form.proofs.Reading.{pattern_sound, skip_sound}
-use Rattle.fields_in.proofs.Walk.{length-hex}
+use Rattle.std.proofs.Common.{Some, None}
+use Rattle.text_in.specs.Places.{spread, RowAt, EndingRead}
+use Rattle.form.proofs.Reading.{skip_sound}
 
 -- what was read stood there
-pub pattern_within : (t : List ℕ) (p v : ℕ) (r : List ℕ) → p ≤ length t → read_pattern (drop p t) ≡ got v r → p + 8 ≤ length t
-pattern_within t p v r h e =
-    let a = ap length (pattern_sound (drop p t) v r e).0 ∙ length-append (pattern v) r in
-    let b = length-hex 8 v in
-    let d = length-drop p t in
-    omega arith
-
 pub byte_within : (t : List ℕ) (p n : ℕ) (u : Unit {0}) (r : List ℕ) → skip (n ∷ []) (drop p t) ≡ got u r → p < length t
 byte_within t p n u r e =
     let a = ap length (skip_sound (n ∷ []) (drop p t) u r e) in
@@ -30,12 +22,11 @@ unfolding spread
 spread_snoc w q [] v = ap (λ (k : ℕ). set w k v) {x = q} {y = q + 512 * 0} (omega arith)
 spread_snoc w q (x ∷ vs) v = spread_snoc (set w q x) (q + 512) vs v ∙ ap (λ (k : ℕ). set (spread (set w q x) (q + 512) vs) k v) {x = q + 512 + 512 * length vs} {y = q + 512 * suc (length vs)} (omega arith)
 
-pub record RowTurn (t : List ℕ) (at n row : ℕ) (w₀ w : List ℕ) (j p q : ℕ) : Type 0 where
+pub record RowTurn (t : List ℕ) (at n row : ℕ) (w₀ w : List ℕ) (j p : ℕ) : Type 0 where
   pub low : j ≤ n
   pub few : n ≤ 8
   pub start : row < 512
   pub within : p ≤ length t
-  pub place : q ≡ row + 512 * j
   pub long : length w ≡ 4096
   pub values : List ℕ
   pub count : length values ≡ j
@@ -46,18 +37,15 @@ same_got : (g : Got (List ℕ)) → g ≡ then g (λ us s. got us s)
 same_got (got a s) = refl
 same_got bad = refl
 
-pub row_start : (t : List ℕ) (at n row : ℕ) (w : List ℕ) → at ≤ length t → n ≤ 8 → row < 512 → length w ≡ 4096 → RowTurn t at n row w w 0 at row
+pub row_start : (t : List ℕ) (at n row : ℕ) (w : List ℕ) → at ≤ length t → n ≤ 8 → row < 512 → length w ≡ 4096 → RowTurn t at n row w w 0 at
 unfolding spread
-row_start t at n row w h k r l = record { low = omega arith; few = k; start = r; within = h; place = omega arith; long = l; values = []; count = refl; stored = refl; read = same_got (read_row n (drop at t)) ∙ ap (λ (m : ℕ). then (read_row m (drop at t)) (λ us s. got us s)) (sym (sub-zero n)) }
+row_start t at n row w h k r l = record { low = omega arith; few = k; start = r; within = h; long = l; values = []; count = refl; stored = refl; read = same_got (read_row n (drop at t)) ∙ ap (λ (m : ℕ). then (read_row m (drop at t)) (λ us s. got us s)) (sym (sub-zero n)) }
 
 joined : (vs : List ℕ) (v : ℕ) (g : Got (List ℕ)) → then (then g (λ us s. got (v ∷ us) s)) (λ us s. got (vs ++ us) s) ≡ then g (λ us s. got ((vs ++ (v ∷ [])) ++ us) s)
 joined vs v (got us s) = ap (λ (l : List ℕ). got l s) (sym (append_assoc vs (v ∷ []) us))
 joined vs v bad = refl
 
-module _ (t : List ℕ) (at n row : ℕ) (w₀ w : List ℕ) (j p q : ℕ) (i : RowTurn t at n row w₀ w j p q) (h : j < n) where
-  pub row_room : q < 4096
-  row_room = let a = i.few in let b = i.start in let c = i.place in omega arith
-
+module _ (t : List ℕ) (at n row : ℕ) (w₀ w : List ℕ) (j p : ℕ) (i : RowTurn t at n row w₀ w j p) (h : j < n) where
   opened : read_row n (drop at t) ≡ then (then (read_pattern (drop p t)) (λ v s. then (skip (ending (n - 1 - j) ∷ []) s) (λ e s. then (read_row (n - 1 - j) s) (λ vs s. got (v ∷ vs) s)))) (λ us s. got (i.values ++ us) s)
   unfolding read_row
   opened = i.read ∙ ap (λ (m : ℕ). then (read_row m (drop p t)) (λ us s. got (i.values ++ us) s)) {x = n - j} {y = suc (n - 1 - j)} (omega arith)
@@ -68,33 +56,31 @@ module _ (t : List ℕ) (at n row : ℕ) (w₀ w : List ℕ) (j p q : ℕ) (i : 
   after_pattern : (v : ℕ) → read_pattern (drop p t) ≡ got v (drop (p + 8) t) → read_row n (drop at t) ≡ then (then (skip (ending (n - 1 - j) ∷ []) (drop (p + 8) t)) (λ e s. then (read_row (n - 1 - j) s) (λ vs s. got (v ∷ vs) s))) (λ us s. got (i.values ++ us) s)
   after_pattern v e = opened ∙ ap (λ (g : Got ℕ). then (then g (λ v s. then (skip (ending (n - 1 - j) ∷ []) s) (λ e s. then (read_row (n - 1 - j) s) (λ vs s. got (v ∷ vs) s)))) (λ us s. got (i.values ++ us) s)) e
 
-  pub row_unended : (v : ℕ) → read_pattern (drop p t) ≡ got v (drop (p + 8) t) → skip (ending (n - 1 - j) ∷ []) (drop (p + 8) t) ≡ bad → read_row n (drop at t) ≡ bad
+  pub row_unended : (v : ℕ) → read_pattern (drop p t) ≡ got v (drop (p + 8) t) → EndingRead t (p + 8) (n - 1 - j) None → read_row n (drop at t) ≡ bad
   row_unended v e f = after_pattern v e ∙ ap (λ (g : Got (Unit {0})). then (then g (λ e s. then (read_row (n - 1 - j) s) (λ vs s. got (v ∷ vs) s))) (λ us s. got (i.values ++ us) s)) f
 
-  pub row_turn : (v : ℕ) → read_pattern (drop p t) ≡ got v (drop (p + 8) t) → skip (ending (n - 1 - j) ∷ []) (drop (p + 8) t) ≡ got tt (drop (p + 8 + 1) t) → RowTurn t at n row w₀ (set w q v) (j + 1) (p + 8 + 1) (q + 512)
-  row_turn v e f =
+  pub row_turn : (v : ℕ) → read_pattern (drop p t) ≡ got v (drop (p + 8) t) → (next : ℕ) → EndingRead t (p + 8) (n - 1 - j) (Some next) → RowTurn t at n row w₀ (set w (row + 512 * j) v) (j + 1) next
+  row_turn v e next f =
       let c = i.count in
-      let d = i.place in
       record {
         low = omega arith;
         few = i.few;
         start = i.start;
-        within = let b = byte_within t (p + 8) (ending (n - 1 - j)) tt (drop (p + 8 + 1) t) f in omega arith;
-        place = omega arith;
-        long = length-set w q v ∙ i.long;
+        within = f.1;
+        long = length-set w (row + 512 * j) v ∙ i.long;
         values = i.values ++ (v ∷ []);
         count = length-append i.values (v ∷ []) ∙ ap (λ (k : ℕ). k + 1) c;
-        stored = ap (λ (l : List ℕ). set l q v) i.stored ∙ ap (λ (k : ℕ). set (spread w₀ row i.values) k v) {x = q} {y = row + 512 * length i.values} (omega arith) ∙ sym (spread_snoc w₀ row i.values v);
+        stored = ap (λ (l : List ℕ). set l (row + 512 * j) v) i.stored ∙ ap (λ (k : ℕ). set (spread w₀ row i.values) (row + 512 * k) v) (sym c) ∙ sym (spread_snoc w₀ row i.values v);
         read =
             after_pattern v e
-            ∙ ap (λ (g : Got (Unit {0})). then (then g (λ e s. then (read_row (n - 1 - j) s) (λ vs s. got (v ∷ vs) s))) (λ us s. got (i.values ++ us) s)) f
-            ∙ joined i.values v (read_row (n - 1 - j) (drop (p + 8 + 1) t))
-            ∙ ap (λ (m : ℕ). then (read_row m (drop (p + 8 + 1) t)) (λ us s. got ((i.values ++ (v ∷ [])) ++ us) s)) {x = n - 1 - j} {y = n - (j + 1)} (omega arith);
+            ∙ ap (λ (g : Got (Unit {0})). then (then g (λ e s. then (read_row (n - 1 - j) s) (λ vs s. got (v ∷ vs) s))) (λ us s. got (i.values ++ us) s)) f.0
+            ∙ joined i.values v (read_row (n - 1 - j) (drop next t))
+            ∙ ap (λ (m : ℕ). then (read_row m (drop next t)) (λ us s. got ((i.values ++ (v ∷ [])) ++ us) s)) {x = n - 1 - j} {y = n - (j + 1)} (omega arith);
       }
 
-pub row_done : (t : List ℕ) (at n row : ℕ) (w₀ w : List ℕ) (j p q : ℕ) → RowTurn t at n row w₀ w j p q → n ≤ j → RowAt t at n row w₀ w p
+pub row_done : (t : List ℕ) (at n row : ℕ) (w₀ w : List ℕ) (j p : ℕ) → RowTurn t at n row w₀ w j p → n ≤ j → RowAt t at n row w₀ w p
 unfolding read_row
-row_done t at n row w₀ w j p q i h =
+row_done t at n row w₀ w j p i h =
     let l = i.low in
     record {
       values = i.values;

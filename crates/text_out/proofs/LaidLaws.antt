@@ -1,11 +1,11 @@
 -- Runs of bytes laid one after the other: the counts of a series, and the lines of values, over plain lists.
 use Prim.Native.Nat.{ℕ, zero, suc, ◌+◌, ◌-◌, ◌*◌, ◌≤◌, ◌<◌}
 use native.Mathlib.Omega.{arith}
-use native.Mathlib.Nat.{sub-zero, not-suc-le-zero, le_of_suc-le-suc}
+use native.Mathlib.Nat.{not-suc-le-zero, le_of_suc-le-suc}
 use native.Mathlib.Numerals.{add-one}
 use mathlib.Core.Path.{◌≡◌, refl, sym, ap, ◌∙◌}
 use mathlib.Core.List.{List, [], ◌∷◌, ◌++◌, map, append_assoc, append-nil}
-use lib.ListN.{length, drop, get_or, length-append, length-drop, drop_of_length-le}
+use lib.ListN.{length, drop, get_or, length-append, length-drop}
 use lib.Seq.{drop-cons}
 use Rattle.meaning.specs.Questions.{refused}
 use Rattle.form.specs.Form.{bytes, line, after, pattern, value_lines, All}
@@ -14,7 +14,7 @@ use Rattle.form.specs.Output.{columns, decimal, printed}
 use Rattle.text_in.specs.Places.{area_series}
 use Rattle.fields_in.proofs.Walk.{length-hex}
 use Rattle.text_out.specs.Places.{paste, field, gather, gathered}
-use Rattle.text_out.proofs.Paste.{paste_none, length-paste}
+use Rattle.text_out.proofs.Paste.{length-paste}
 use Rattle.text_out.proofs.PutLaws.{paste_paste}
 use Rattle.text_out.proofs.Series.{area_lines}
 use Rattle.text_out.proofs.FieldLaws.{decimal_short}
@@ -74,9 +74,6 @@ pub record CountsTurn (l₀ : List ℕ) (at : ℕ) (ns l : List ℕ) (i p : ℕ)
   pub laid : Laid l₀ at text l p
   pub same : text ++ line (map decimal (drop i ns)) ≡ line (map decimal ns)
 
-pub counts_start : (l : List ℕ) (at : ℕ) (ns : List ℕ) → All (λ n. n < 1000) ns → at + 4 * length ns ≤ length l → CountsTurn l at ns l 0 at
-counts_start l at ns a h = record { small = a; space = h; text = []; short = omega arith; laid = record { stored = paste_none l at; place = omega arith; room = omega arith }; same = refl }
-
 module _ (l₀ : List ℕ) (at : ℕ) (ns l : List ℕ) (i p : ℕ) (x : CountsTurn l₀ at ns l i p) where
   pub counts_room : i < length ns → (get_or ns i 0 < 1000) × (p + 4 ≤ length l)
   counts_room h =
@@ -110,11 +107,6 @@ module _ (l₀ : List ℕ) (at : ℕ) (ns l : List ℕ) (i p : ℕ) (x : CountsT
             ∙ ap (λ (y : List ℕ). x.text ++ line (map decimal y)) (sym (drop-cons ns i 0 h))
             ∙ x.same;
       }
-
-  pub counts_done : length ns ≤ i → (p ≡ at + length (line (map decimal ns))) × (l ≡ paste l₀ at (line (map decimal ns)))
-  counts_done h =
-      let e : x.text ≡ line (map decimal ns) = sym (append-nil x.text) ∙ ap (λ (y : List ℕ). x.text ++ line (map decimal y)) (sym (drop_of_length-le ns h)) ∙ x.same in
-      (x.laid.place ∙ ap (λ (y : List ℕ). at + length y) e, x.laid.stored ∙ ap (paste l₀ at) e)
 
 -- ---- a refusal
 
@@ -168,17 +160,6 @@ pub record LinesTurn (l₀ : List ℕ) (at n lines : ℕ) (work l : List ℕ) (i
   pub short : length text ≤ 72 * i
   pub laid : Laid l₀ at text l p
   pub same : text ++ value_lines (gathered work n i (lines - i)) ≡ value_lines (gathered work n 0 lines)
-
-pub lines_start : (l : List ℕ) (at n lines : ℕ) (work : List ℕ) → n ≤ 8 → at + 72 * lines ≤ length l → LinesTurn l at n lines work l 0 at
-lines_start l at n lines work h k = record {
-  low = omega arith;
-  most = h;
-  space = k;
-  text = [];
-  short = omega arith;
-  laid = record { stored = paste_none l at; place = omega arith; room = omega arith };
-  same = ap (λ (m : ℕ). value_lines (gathered work n 0 m)) (sub-zero lines);
-}
 
 module _ (l₀ : List ℕ) (at n lines : ℕ) (work l : List ℕ) (i p : ℕ) (x : LinesTurn l₀ at n lines work l i p) where
   pub lines_room : i < lines → p + 9 * n ≤ length l

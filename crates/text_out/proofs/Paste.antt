@@ -71,12 +71,6 @@ put_turn l₀ at v l k rest c h t b e = record {
   long = length-set l (at + (7 - k)) c ∙ t.long;
 }
 
-pub put_done : (l₀ : List ℕ) (at v : ℕ) (l : List ℕ) (k rest : ℕ) → PutTurn l₀ at v l k rest → 8 ≤ k → l ≡ paste l₀ at (hex_text 8 v)
-put_done l₀ at v l k rest t h =
-    let b = t.low in
-    let e : k ≡ 8 = omega arith in
-    t.text ∙ ap (λ (j : ℕ). paste l₀ (at + (8 - j)) (hex_text j v)) e ∙ ap (λ (p : ℕ). paste l₀ p (hex_text 8 v)) (add-zero at)
-
 -- ---- a number in decimal
 pub decimal_1 : (n : ℕ) → n < 10 → decimal n ≡ (48 + n) ∷ []
 unfolding decimal_text

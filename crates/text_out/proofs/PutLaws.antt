@@ -1,7 +1,6 @@
 -- The loop that writes a line of patterns, over plain lists.
 use Prim.Native.Nat.{ℕ, zero, suc, ◌+◌, ◌-◌, ◌*◌, ◌≤◌, ◌<◌}
 use native.Mathlib.Omega.{arith}
-use native.Mathlib.Nat.{sub-zero}
 use mathlib.Core.Path.{◌≡◌, refl, sym, ap, ◌∙◌}
 use mathlib.Core.List.{List, [], ◌∷◌, ◌++◌, map, append_assoc, append-nil}
 use lib.ListN.{length, take, drop, get_or, set, length-append}
@@ -10,7 +9,7 @@ use Rattle.form.specs.Form.{line, after, pattern, hex_text}
 use Rattle.form.specs.Parse.{ending}
 use Rattle.text_out.specs.Places.{paste, gather}
 use Rattle.fields_in.proofs.Walk.{length-hex}
-use Rattle.text_out.proofs.Paste.{paste_none, paste_back, length-paste}
+use Rattle.text_out.proofs.Paste.{paste_back, length-paste}
 
 -- a run after a run
 pub paste_paste : (l : List ℕ) (a : ℕ) (v w : List ℕ) → a + length v + length w ≤ length l → paste (paste l a v) (a + length v) w ≡ paste l a (v ++ w)
@@ -29,54 +28,44 @@ unfolding gather
 after_ending w q zero = refl
 after_ending w q (suc n) = refl
 
-pub record LineTurn (l₀ : List ℕ) (at n i : ℕ) (work l : List ℕ) (j p q : ℕ) : Type 0 where
+pub record LineTurn (l₀ : List ℕ) (at n i : ℕ) (work l : List ℕ) (j : ℕ) : Type 0 where
   pub low : j ≤ n
-  pub place : p ≡ at + 9 * j
-  pub source : q ≡ i + 512 * j
   pub long : length l ≡ length l₀
   pub text : List ℕ
   pub count : length text ≡ 9 * j
   pub stored : l ≡ paste l₀ at text
-  pub same : text ++ line (map pattern (gather work q (n - j))) ≡ line (map pattern (gather work i n))
+  pub same : text ++ line (map pattern (gather work (i + 512 * j) (n - j))) ≡ line (map pattern (gather work i n))
 
-pub line_start : (l : List ℕ) (at n i : ℕ) (work : List ℕ) → LineTurn l at n i work l 0 at i
-line_start l at n i work = record { low = omega arith; place = omega arith; source = omega arith; long = refl; text = []; count = refl; stored = paste_none l at; same = ap (λ (m : ℕ). line (map pattern (gather work i m))) (sub-zero n) }
-
-pub line_turn : (l₀ : List ℕ) (at n i : ℕ) (work l : List ℕ) (j p q : ℕ) → LineTurn l₀ at n i work l j p q → j < n → at + 9 * n ≤ length l₀ → (m : List ℕ) → m ≡ paste l p (hex_text 8 (get_or work q 0)) → (c : ℕ) → c ≡ ending (n - 1 - j)
-    → LineTurn l₀ at n i work (set m (p + 8) c) (j + 1) (p + 8 + 1) (q + 512)
+pub line_turn : (l₀ : List ℕ) (at n i : ℕ) (work l : List ℕ) (j : ℕ) → LineTurn l₀ at n i work l j → j < n → at + 9 * n ≤ length l₀ → (m : List ℕ) → m ≡ paste l (at + 9 * j) (hex_text 8 (get_or work (i + 512 * j) 0)) → (c : ℕ) → c ≡ ending (n - 1 - j)
+    → LineTurn l₀ at n i work (set m (at + 9 * j + 8) c) (j + 1)
 unfolding gather
-line_turn l₀ at n i work l j p q x h k m e c f =
+line_turn l₀ at n i work l j x h k m e c f =
+    let p = at + 9 * j in
+    let q = i + 512 * j in
     let v = get_or work q 0 in
     let w = pattern v ++ (c ∷ []) in
     let lw : length w ≡ 9 = length-append (pattern v) (c ∷ []) ∙ ap (λ (o : ℕ). o + 1) (length-hex 8 v) in
-    let a = x.place in
-    let b = x.source in
     let d = x.count in
     let g = x.long in
     let t = length-hex 8 v in
     let one : set m (p + 8) c ≡ paste l p w = ap (λ (y : List ℕ). set y (p + 8) c) e ∙ ap (λ (o : ℕ). set (paste l p (pattern v)) o c) {x = p + 8} {y = p + length (pattern v)} (omega arith) ∙ paste_back l p (pattern v) c (omega arith) in
     record {
       low = omega arith;
-      place = omega arith;
-      source = omega arith;
       long = ap length one ∙ length-paste l p w (omega arith) ∙ x.long;
       text = x.text ++ w;
       count = length-append x.text w ∙ omega arith;
       stored = one ∙ ap (λ (y : List ℕ). paste y p w) x.stored ∙ ap (λ (o : ℕ). paste (paste l₀ at x.text) o w) {x = p} {y = at + length x.text} (omega arith) ∙ paste_paste l₀ at x.text w (omega arith);
       same =
-          append_assoc x.text w (line (map pattern (gather work (q + 512) (n - (j + 1)))))
+          ap (λ (o : ℕ). (x.text ++ w) ++ line (map pattern (gather work o (n - (j + 1))))) {x = i + 512 * (j + 1)} {y = q + 512} (omega arith)
+          ∙ append_assoc x.text w (line (map pattern (gather work (q + 512) (n - (j + 1)))))
           ∙ ap (λ (y : List ℕ). x.text ++ y) (append_assoc (pattern v) (c ∷ []) (line (map pattern (gather work (q + 512) (n - (j + 1)))))
           ∙ ap (λ (o : ℕ). pattern v ++ (o ∷ line (map pattern (gather work (q + 512) (n - (j + 1)))))) (f ∙ ap ending {x = n - 1 - j} {y = n - (j + 1)} (omega arith) ∙ sym (after_ending work (q + 512) (n - (j + 1))))
           ∙ ap (λ (o : ℕ). line (map pattern (gather work q o))) {x = suc (n - (j + 1))} {y = n - j} (omega arith))
           ∙ x.same;
     }
 
-pub line_done : (l₀ : List ℕ) (at n i : ℕ) (work l : List ℕ) (j p q : ℕ) → LineTurn l₀ at n i work l j p q → n ≤ j → (p ≡ at + 9 * n) × (l ≡ paste l₀ at (line (map pattern (gather work i n))))
+pub line_done : (l₀ : List ℕ) (at n i : ℕ) (work l : List ℕ) (j : ℕ) → LineTurn l₀ at n i work l j → n ≤ j → l ≡ paste l₀ at (line (map pattern (gather work i n)))
 unfolding gather
-line_done l₀ at n i work l j p q x h =
+line_done l₀ at n i work l j x h =
     let b = x.low in
-    let a = x.place in
-    (omega arith, x.stored ∙ ap (paste l₀ at) (sym (append-nil x.text) ∙ ap (λ (o : ℕ). x.text ++ line (map pattern (gather work q o))) {x = 0} {y = n - j} (omega arith) ∙ x.same))
-
-pub line_kept : (l : List ℕ) (p v : ℕ) → p + 8 ≤ length l → length (paste l p (hex_text 8 v)) ≡ length l
-line_kept l p v h = let t = length-hex 8 v in length-paste l p (hex_text 8 v) (omega arith)
+    x.stored ∙ ap (paste l₀ at) (sym (append-nil x.text) ∙ ap (λ (o : ℕ). x.text ++ line (map pattern (gather work (i + 512 * j) o))) {x = 0} {y = n - j} (omega arith) ∙ x.same)

@@ -11,15 +11,18 @@ ghost use Rattle.form.specs.Output.{decimal, columns, printed};
 ghost use Rattle.text_in.specs.Places.{area_series};
 ghost use Rattle.text_out.specs.Places.{paste, gather, field};
 
+use text_in::Work;
+
 // One hexadecimal digit as a byte.
+#[tactic(auto, using(std::proofs::lemmas::Bool::Decides::nat_tests), unfolding(form::specs::Form::hex_char))]
 pub fn hex_char(d: u32) -> u8
     requires { d < 16 }
     ensures { result ≡ hex_char d }
 {
     if d < 10 {
-        (48 + d) as u8
+        b'0' + d as u8
     } else {
-        (55 + d) as u8
+        b'A' + (d - 10) as u8
     }
 }
 
@@ -28,14 +31,10 @@ pub fn put_pattern(out: &mut [u8], at: usize, v: u32)
     requires { at + 8 ≤ length out.old }
     ensures { out.new ≡ paste out.old at (hex_text 8 v) }
 {
-    let mut done: usize = 0;
-    let mut rest: u32 = v;
-    while done < 8 {
-        let c = hex_char(rest % 16);
-        let i = at + (7 - done);
-        out[i] = c;
-        rest = rest / 16;
-        done += 1;
+    let mut rest = v;
+    for done in 0..8 {
+        out[at + (7 - done)] = hex_char(rest % 16);
+        rest /= 16;
     }
 }
 
@@ -64,31 +63,21 @@ pub fn put_number(out: &mut [u8], at: usize, n: usize) -> usize
 pub fn ending_byte(left: usize) -> u8
     ensures { result ≡ ending left }
 {
-    if left == 0 {
-        return b'\n';
-    }
-    b','
+    if left == 0 { b'\n' } else { b',' }
 }
 
 // Line i of the work area: pattern j from place i + 512 * j; the place after it.
-pub fn put_line(out: &mut [u8], at: usize, n: usize, i: usize, work: &[u32]) -> usize
-    requires { (n ≤ 8) × (i < 512) × (length work.now ≡ 4096) × (at + 9 * n ≤ length out.old) }
+pub fn put_line(out: &mut [u8], at: usize, n: usize, i: usize, work: &Work) -> usize
+    requires { (n ≤ 8) × (i < 512) × (at + 9 * n ≤ length out.old) }
     ensures value { result ≡ at + 9 * n }
     ensures out_after { out.new ≡ paste out.old at (line (map pattern (gather work.now i n))) }
 {
-    let mut j: usize = 0;
-    let mut p: usize = at;
-    let mut q: usize = i;
-    while j < n {
-        put_pattern(out, p, work[q]);
-        let e = p + 8;
-        let c = ending_byte(n - 1 - j);
-        out[e] = c;
-        p = e + 1;
-        q += 512;
-        j += 1;
+    for j in 0..n {
+        let p = at + 9 * j;
+        put_pattern(out, p, work[i + 512 * j]);
+        out[p + 8] = ending_byte(n - 1 - j);
     }
-    p
+    at + 9 * n
 }
 
 // The bytes of `source` from `at` on; the place after them.
@@ -97,13 +86,9 @@ pub fn put_bytes(out: &mut [u8], at: usize, source: &[u8]) -> usize
     ensures value { result ≡ at + length source.now }
     ensures out_after { out.new ≡ paste out.old at source.now }
 {
-    let mut i: usize = 0;
-    while i < source.len() {
-        let p = at + i;
-        out[p] = source[i];
-        i += 1;
-    }
-    at + i
+    let end = at + source.len();
+    out[at..end].copy_from_slice(source);
+    end
 }
 
 // A number below 1000 and the byte after it, with `left` more fields on its line; the place after them.
@@ -113,8 +98,7 @@ pub fn put_field(out: &mut [u8], at: usize, n: usize, left: usize) -> usize
     ensures out_after { out.new ≡ paste out.old at (field n left) }
 {
     let p = put_number(out, at, n);
-    let c = ending_byte(left);
-    out[p] = c;
+    out[p] = ending_byte(left);
     p + 1
 }
 
@@ -125,31 +109,28 @@ pub fn put_counts(out: &mut [u8], at: usize, counts: &[usize]) -> usize
     ensures value { result ≡ at + length (line (map decimal counts.now)) }
     ensures out_after { out.new ≡ paste out.old at (line (map decimal counts.now)) }
 {
-    let mut i: usize = 0;
-    let mut p: usize = at;
-    while i < counts.len() {
-        p = put_field(out, p, counts[i], counts.len() - 1 - i);
-        i += 1;
+    let mut p = at;
+    for (i, n) in counts.iter().enumerate() {
+        p = put_field(out, p, *n, counts.len() - 1 - i);
     }
     p
 }
 
 // The lines of values of the n series in the work area from `at` on, with room for 72 bytes each; the place after them.
-pub fn put_lines(out: &mut [u8], at: usize, n: usize, lines: usize, work: &[u32]) -> usize
-    requires { (n ≤ 8) × (lines ≤ 512) × (length work.now ≡ 4096) × (at + 72 * lines ≤ length out.old) }
+pub fn put_lines(out: &mut [u8], at: usize, n: usize, lines: usize, work: &Work) -> usize
+    requires { (n ≤ 8) × (lines ≤ 512) × (at + 72 * lines ≤ length out.old) }
     ensures value { result ≡ at + length (value_lines (columns lines (area_series work.now n lines))) }
     ensures out_after { out.new ≡ paste out.old at (value_lines (columns lines (area_series work.now n lines))) }
 {
-    let mut i: usize = 0;
-    let mut p: usize = at;
-    while i < lines {
+    let mut p = at;
+    for i in 0..lines {
         p = put_line(out, p, n, i, work);
-        i += 1;
     }
     p
 }
 
 // What is printed for the refusal with number n, from the start on; how many bytes it has.
+// A number, and no `Refusal`, since the clause takes each number below 1000 and the type would take fewer.
 pub fn put_refusal(out: &mut [u8], n: usize) -> usize
     requires { (n < 1000) × (12 ≤ length out.old) }
     ensures value { result ≡ length (printed (refused n)) }

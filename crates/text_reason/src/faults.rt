@@ -1,45 +1,39 @@
-// The first fault of a text that doesn't have the form, line by line from its start. A line runs from `from` to `to`, where its newline stands or the text ends.
+// The first fault of a text that doesn't have the form, line by line from its start.
 ghost use Rattle.std.specs.Prelude.{◌≤◌, length};
 
-// What can be wrong, in the order in which a line is looked at.
-#[derive(Clone, Copy)]
-pub enum Reason {
-    Nothing,
+// What can be wrong with a text as a whole, or with one of its lines.
+#[derive(Clone, Copy, Debug, PartialEq, Eq)]
+pub enum Fault<'a> {
     Empty,
     ByteOrderMark,
+    NoNewline,
+    LineMissing(usize),
+    InLine { line: usize, reason: Reason<'a> },
+}
+
+// What can be wrong in a line. Some speak of the field that has the fault, or of its place, which counts from 1; others of how many fields there are.
+#[derive(Clone, Copy, Debug, PartialEq, Eq)]
+pub enum Reason<'a> {
     CarriageReturn,
     FirstLine,
     EmptyLine,
     ManyLines,
     LongLine,
-    NoNewline,
     Semicolon,
     Space,
     LastComma,
-    EmptyField,
-    JobFields,
-    MethodCapital,
-    MethodWord,
-    PlusSign,
-    Setting,
-    ManyNames,
-    Name,
-    Values,
-    Prefix,
-    LowerCase,
-    Pattern,
-    Ends,
-}
-
-// A fault with its line, the field that has it, and two numbers that some reasons speak of: how many fields there are, or which one it is, and how many names.
-#[derive(Clone, Copy)]
-pub struct Fault {
-    pub reason: Reason,
-    pub line: usize,
-    pub from: usize,
-    pub to: usize,
-    pub fields: usize,
-    pub names: usize,
+    EmptyField { place: usize },
+    JobFields { fields: usize },
+    ManyNames { names: usize },
+    Values { values: usize, names: usize },
+    MethodCapital(&'a [u8]),
+    MethodWord(&'a [u8]),
+    PlusSign(&'a [u8]),
+    Setting(&'a [u8]),
+    Name(&'a [u8]),
+    Prefix(&'a [u8]),
+    LowerCase(&'a [u8]),
+    Pattern(&'a [u8]),
 }
 
 // One byte more than a text of the form can have, and all that `trimlist` reads: a text of so many bytes may go on.
@@ -48,345 +42,240 @@ const CUT: usize = 37053;
 // The longest line of the form, eight names of 16 letters with commas between.
 const LONGEST: usize = 135;
 
-fn at_field(reason: Reason, line: usize, from: usize, to: usize) -> Fault {
-    Fault {
-        reason,
-        line,
-        from,
-        to,
-        fields: 0,
-        names: 0,
-    }
-}
-
-fn at_line(reason: Reason, line: usize) -> Fault {
-    at_field(reason, line, 0, 0)
-}
-
-fn with_counts(reason: Reason, line: usize, fields: usize, names: usize) -> Fault {
-    Fault {
-        reason,
-        line,
-        from: 0,
-        to: 0,
-        fields,
-        names,
-    }
-}
-
-fn fine() -> Fault {
-    at_line(Reason::Nothing, 0)
-}
-
-fn is_found(fault: Fault) -> bool {
-    !matches!(fault.reason, Reason::Nothing)
-}
-
-// Where the first byte from `low` to `high` stands; `to` where there is none.
-pub fn until(s: &[u8], from: usize, to: usize, low: u8, high: u8) -> usize
-    requires { (from ≤ to) × (to ≤ length s.now) }
-    ensures { (from ≤ result) × (result ≤ to) }
+// Where the byte first stands; the length where it doesn't.
+pub fn until(s: &[u8], byte: u8) -> usize
+    ensures { result ≤ length s.now }
 {
-    for i in from..to {
-        if low <= s[i] && s[i] <= high {
-            return i;
-        }
-    }
-    to
-}
-
-fn has(s: &[u8], from: usize, to: usize, low: u8, high: u8) -> bool
-    requires { (from ≤ to) × (to ≤ length s.now) }
-{
-    until(s, from, to, low, high) < to
-}
-
-// How many fields a line has: one more than it has commas.
-fn fields(s: &[u8], from: usize, to: usize) -> usize
-    requires { (from ≤ to) × (to ≤ length s.now) }
-{
-    let mut n: usize = 1;
-    for byte in &s[from..to] {
-        if *byte == b',' {
-            n = n.wrapping_add(1);
-        }
-    }
-    n
+    s.iter().position(|b| *b == byte).unwrap_or(s.len())
 }
 
 // Of UTF-8, or of UTF-16.
 fn is_byte_order_mark(s: &[u8]) -> bool {
-    if s.len() < 3 {
-        return false;
-    }
-    s[0] == 0xEF && s[1] == 0xBB && s[2] == 0xBF
-        || s[0] == 0xFE && s[1] == 0xFF
-        || s[0] == 0xFF && s[1] == 0xFE
+    matches!(
+        s,
+        [0xEF, 0xBB, 0xBF, ..] | [0xFE, 0xFF, _, ..] | [0xFF, 0xFE, _, ..]
+    )
 }
 
 // A name, or a method word by the letters that may stand in it.
-fn is_word(s: &[u8], from: usize, to: usize) -> bool
-    requires { (from ≤ to) × (to ≤ length s.now) }
-{
-    let n = fields_in::letters_at(s, from);
-    n > 0 && n == to - from
+fn is_word(field: &[u8]) -> bool {
+    let letters = fields_in::letters_at(field, 0);
+    letters > 0 && letters == field.len()
 }
 
-fn is_setting(s: &[u8], from: usize, to: usize) -> bool
-    requires { (from ≤ to) × (to ≤ length s.now) }
-{
-    let setting = fields_in::setting_at(s, from);
-    match setting {
-        fields_in::Setting::Is { value: _, next } => next == to,
-        fields_in::Setting::NoSetting => false,
-    }
+fn is_setting(field: &[u8]) -> bool {
+    fields_in::setting_at(field, 0).is_some_and(|read| read.next == field.len())
 }
 
-fn is_pattern(s: &[u8], from: usize, to: usize) -> bool
-    requires { (from ≤ to) × (to ≤ length s.now) }
-{
-    let pattern = fields_in::pattern_at(s, from);
-    match pattern {
-        fields_in::Pattern::At(_) => to - from == 8,
-        fields_in::Pattern::Bad => false,
-    }
+fn is_pattern(field: &[u8]) -> bool {
+    field.len() == 8 && fields_in::pattern_at(field, 0).is_some()
 }
 
-fn has_prefix(s: &[u8], from: usize, to: usize) -> bool
-    requires { (from ≤ to) × (to ≤ length s.now) }
-{
-    if to - from < 2 {
-        return false;
+fn check_pattern(field: &[u8]) -> Result<(), Reason<'_>> {
+    if is_pattern(field) {
+        return Ok(());
     }
-    s[from] == b'0' && (s[from + 1] == b'x' || s[from + 1] == b'X')
+    if matches!(field, [b'0', b'x' | b'X', ..]) {
+        return Err(Reason::Prefix(field));
+    }
+    if field.len() == 8 && field.iter().all(|byte| byte.is_ascii_hexdigit()) {
+        return Err(Reason::LowerCase(field));
+    }
+    Err(Reason::Pattern(field))
 }
 
-// Are all digits hexadecimal, be they capitals or not?
-fn is_hexadecimal(s: &[u8], from: usize, to: usize) -> bool
-    requires { (from ≤ to) × (to ≤ length s.now) }
-{
-    !has(s, from, to, 0, b'/')
-        && !has(s, from, to, b':', b'@')
-        && !has(s, from, to, b'G', b'`')
-        && !has(s, from, to, b'g', 255)
+fn check_name(field: &[u8]) -> Result<(), Reason<'_>> {
+    if is_word(field) {
+        return Ok(());
+    }
+    Err(Reason::Name(field))
 }
 
-fn pattern_fault(s: &[u8], line: usize, from: usize, to: usize) -> Fault
-    requires { (from ≤ to) × (to ≤ length s.now) }
-{
-    if is_pattern(s, from, to) {
-        return fine();
+fn check_method(field: &[u8]) -> Result<(), Reason<'_>> {
+    if is_word(field) {
+        return Ok(());
     }
-    if has_prefix(s, from, to) {
-        return at_field(Reason::Prefix, line, from, to);
+    if field.iter().any(|byte| byte.is_ascii_uppercase()) {
+        return Err(Reason::MethodCapital(field));
     }
-    if to - from == 8 && is_hexadecimal(s, from, to) {
-        return at_field(Reason::LowerCase, line, from, to);
-    }
-    at_field(Reason::Pattern, line, from, to)
+    Err(Reason::MethodWord(field))
 }
 
-fn name_fault(s: &[u8], line: usize, from: usize, to: usize) -> Fault
-    requires { (from ≤ to) × (to ≤ length s.now) }
-{
-    if is_word(s, from, to) {
-        return fine();
+fn check_setting(field: &[u8]) -> Result<(), Reason<'_>> {
+    if is_setting(field) {
+        return Ok(());
     }
-    at_field(Reason::Name, line, from, to)
+    if field.contains(&b'+') {
+        return Err(Reason::PlusSign(field));
+    }
+    Err(Reason::Setting(field))
 }
 
-fn method_fault(s: &[u8], line: usize, from: usize, to: usize) -> Fault
-    requires { (from ≤ to) × (to ≤ length s.now) }
-{
-    if is_word(s, from, to) {
-        return fine();
-    }
-    if has(s, from, to, b'A', b'Z') {
-        return at_field(Reason::MethodCapital, line, from, to);
-    }
-    at_field(Reason::MethodWord, line, from, to)
+// A line without its newline.
+#[derive(Clone, Copy)]
+struct Line<'a> {
+    number: usize,
+    bytes: &'a [u8],
+    has_newline: bool,
+    // Whether the reading stopped in it: then nothing is known of its end.
+    is_cut: bool,
 }
 
-fn setting_fault(s: &[u8], line: usize, from: usize, to: usize) -> Fault
-    requires { (from ≤ to) × (to ≤ length s.now) }
-{
-    if is_setting(s, from, to) {
-        return fine();
+impl<'a> Line<'a> {
+    // How many fields it has: one more than it has commas.
+    fn fields(self) -> usize {
+        self.bytes.split(|byte| *byte == b',').count()
     }
-    if has(s, from, to, b'+', b'+') {
-        return at_field(Reason::PlusSign, line, from, to);
-    }
-    at_field(Reason::Setting, line, from, to)
-}
 
-// Field k of a line: on line 2 method, setting and mark, on line 3 a name, and then a pattern.
-fn field_fault(s: &[u8], line: usize, k: usize, from: usize, to: usize) -> Fault
-    requires { (from ≤ to) × (to ≤ length s.now) }
-{
-    if from == to {
-        return with_counts(Reason::EmptyField, line, k.wrapping_add(1), 0);
-    }
-    if line == 2 && k == 0 {
-        return method_fault(s, line, from, to);
-    }
-    if line == 2 && k == 1 {
-        return setting_fault(s, line, from, to);
-    }
-    if line == 3 {
-        return name_fault(s, line, from, to);
-    }
-    pattern_fault(s, line, from, to)
-}
-
-fn fields_fault(s: &[u8], line: usize, from: usize, to: usize) -> Fault
-    requires { (from ≤ to) × (to ≤ length s.now) }
-{
-    let mut k: usize = 0;
-    let mut at = from;
-    while at < to {
-        let end = until(s, at, to, b',', b',');
-        let fault = field_fault(s, line, k, at, end);
-        if is_found(fault) {
-            return fault;
+    // The line as a whole, and how it ends.
+    fn check_end(self) -> Result<(), Fault<'a>> {
+        if self.bytes.ends_with(b"\r") && !self.is_cut {
+            return Err(self.fault(Reason::CarriageReturn));
         }
-        if end == to {
-            return fine();
+        if self.number == 1 && !matches!(self.bytes, b"method,setting,mark") {
+            return Err(self.fault(Reason::FirstLine));
         }
-        at = end + 1;
-        k += 1;
+        if self.bytes.is_empty() {
+            return Err(self.fault(Reason::EmptyLine));
+        }
+        if self.number > 515 {
+            return Err(self.fault(Reason::ManyLines));
+        }
+        if self.bytes.len() > LONGEST {
+            return Err(self.fault(Reason::LongLine));
+        }
+        if !self.has_newline {
+            return Err(Fault::NoNewline);
+        }
+        Ok(())
     }
-    fine()
-}
 
-fn ends_in(s: &[u8], from: usize, to: usize, byte: u8) -> bool
-    requires { (from ≤ to) × (to ≤ length s.now) }
-{
-    if from == to {
-        return false;
+    // Signs that people put between fields.
+    fn check_signs(self) -> Result<(), Reason<'a>> {
+        if self.bytes.contains(&b';') {
+            return Err(Reason::Semicolon);
+        }
+        if self.bytes.contains(&b' ') || self.bytes.contains(&b'\t') {
+            return Err(Reason::Space);
+        }
+        Ok(())
     }
-    s[to - 1] == byte
-}
 
-// Has the line as many fields as it may? On line 3 there may be 1 to 8.
-fn count_fault(line: usize, fields: usize, names: usize) -> Fault {
-    if line == 2 && fields != 3 {
-        return with_counts(Reason::JobFields, line, fields, 3);
+    // Has the line as many fields as it may? On line 3 there may be 1 to 8.
+    fn check_count(self, names: usize) -> Result<(), Reason<'a>> {
+        let fields = self.fields();
+        match self.number {
+            2 if fields != 3 => Err(Reason::JobFields { fields }),
+            3 if fields > 8 => Err(Reason::ManyNames { names: fields }),
+            4.. if fields != names => Err(Reason::Values {
+                values: fields,
+                names,
+            }),
+            _ => Ok(()),
+        }
     }
-    if line == 3 && fields > 8 {
-        return with_counts(Reason::ManyNames, line, fields, 8);
-    }
-    if line > 3 && fields != names {
-        return with_counts(Reason::Values, line, fields, names);
-    }
-    fine()
-}
 
-// The number of fields, and a comma at the end: it is one too many, or the field after it is empty.
-fn last_fault(s: &[u8], line: usize, from: usize, to: usize, names: usize) -> Fault
-    requires { (from ≤ to) × (to ≤ length s.now) }
-{
-    let n = fields(s, from, to);
-    let fault = count_fault(line, n, names);
-    if !ends_in(s, from, to, b',') {
-        return fault;
+    // The number of fields, and a comma at the end: it is one too many, or the field after it is empty.
+    fn check_last(self, names: usize) -> Result<(), Reason<'a>> {
+        let count = self.check_count(names);
+        if !self.bytes.ends_with(b",") {
+            return count;
+        }
+        if count.is_err() || self.number == 3 {
+            return Err(Reason::LastComma);
+        }
+        Err(Reason::EmptyField {
+            place: self.fields(),
+        })
     }
-    if is_found(fault) || line == 3 {
-        return at_line(Reason::LastComma, line);
-    }
-    with_counts(Reason::EmptyField, line, n, 0)
-}
 
-// Signs that people put between fields.
-fn sign_fault(s: &[u8], line: usize, from: usize, to: usize) -> Fault
-    requires { (from ≤ to) × (to ≤ length s.now) }
-{
-    if has(s, from, to, b';', b';') {
-        return at_line(Reason::Semicolon, line);
+    // The field at a place, which counts from 0: on line 2 method, setting and mark, on line 3 a name, and then a pattern.
+    fn check_field(self, place: usize, field: &'a [u8]) -> Result<(), Reason<'a>> {
+        if field.is_empty() {
+            return Err(Reason::EmptyField {
+                place: place.saturating_add(1),
+            });
+        }
+        match (self.number, place) {
+            (2, 0) => check_method(field),
+            (2, 1) => check_setting(field),
+            (3, _) => check_name(field),
+            _ => check_pattern(field),
+        }
     }
-    if has(s, from, to, b' ', b' ') || has(s, from, to, b'\t', b'\t') {
-        return at_line(Reason::Space, line);
-    }
-    fine()
-}
 
-// A line as a whole, and how it ends. Of a line that was cut off while it was read nothing is known of its end.
-fn end_fault(s: &[u8], line: usize, from: usize, to: usize) -> Fault
-    requires { (from ≤ to) × (to ≤ length s.now) }
-{
-    let cut = to == s.len() && to >= CUT;
-    if ends_in(s, from, to, b'\r') && !cut {
-        return at_line(Reason::CarriageReturn, line);
+    // A walk of its own and no `split`: the must-fail edit `stands_still` is of a walk that stays at a comma.
+    fn check_fields(self) -> Result<(), Reason<'a>> {
+        let mut rest = self.bytes;
+        let mut place: usize = 0;
+        while !rest.is_empty() {
+            let end = until(rest, b',');
+            self.check_field(place, &rest[..end])?;
+            if end == rest.len() {
+                return Ok(());
+            }
+            rest = &rest[end + 1..];
+            place = place.saturating_add(1);
+        }
+        Ok(())
     }
-    if line == 1 && !text_in::header_at(s) && !matches!(s, b"method,setting,mark") {
-        return at_line(Reason::FirstLine, line);
-    }
-    if from == to {
-        return at_line(Reason::EmptyLine, line);
-    }
-    if line > 515 {
-        return at_line(Reason::ManyLines, line);
-    }
-    if to - from > LONGEST {
-        return at_line(Reason::LongLine, line);
-    }
-    if to == s.len() {
-        return at_line(Reason::NoNewline, line);
-    }
-    fine()
-}
 
-fn line_fault(s: &[u8], line: usize, from: usize, to: usize, names: usize) -> Fault
-    requires { (from ≤ to) × (to ≤ length s.now) }
-{
-    let fault = end_fault(s, line, from, to);
-    if is_found(fault) || line == 1 {
-        return fault;
+    // All but the heading, behind its end.
+    fn check_inside(self, names: usize) -> Result<(), Reason<'a>> {
+        self.check_signs()?;
+        self.check_last(names)?;
+        self.check_fields()
     }
-    let fault = sign_fault(s, line, from, to);
-    if is_found(fault) {
-        return fault;
+
+    fn check(self, names: usize) -> Result<(), Fault<'a>> {
+        self.check_end()?;
+        if self.number == 1 {
+            return Ok(());
+        }
+        let line = self.number;
+        self.check_inside(names)
+            .map_err(|reason| Fault::InLine { line, reason })
     }
-    let fault = last_fault(s, line, from, to, names);
-    if is_found(fault) {
-        return fault;
+
+    fn fault(self, reason: Reason<'a>) -> Fault<'a> {
+        Fault::InLine {
+            line: self.number,
+            reason,
+        }
     }
-    fields_fault(s, line, from, to)
 }
 
 // The first fault of a text, by its lines; or that it ends before its names.
-fn lines_fault(s: &[u8]) -> Fault {
-    let mut before: usize = 0;
+fn check_lines(s: &[u8]) -> Result<(), Fault<'_>> {
+    let mut lines: usize = 0;
     let mut names: usize = 0;
-    let mut at: usize = 0;
-    while at < s.len() {
-        let line = before + 1;
-        let to = until(s, at, s.len(), b'\n', b'\n');
-        let fault = line_fault(s, line, at, to, names);
-        if is_found(fault) {
-            return fault;
+    for piece in s.split_inclusive(|byte| *byte == b'\n') {
+        lines = lines.saturating_add(1);
+        let ended = piece.strip_suffix(b"\n");
+        let line = Line {
+            number: lines,
+            bytes: ended.unwrap_or(piece),
+            has_newline: ended.is_some(),
+            is_cut: ended.is_none() && s.len() >= CUT,
+        };
+        line.check(names)?;
+        if lines == 3 {
+            names = line.fields();
         }
-        if to == s.len() {
-            return fine();
-        }
-        if line == 3 {
-            names = fields(s, at, to);
-        }
-        at = to + 1;
-        before = line;
     }
-    if before < 3 {
-        return at_line(Reason::Ends, before + 1);
+    if lines < 3 {
+        return Err(Fault::LineMissing(lines + 1));
     }
-    fine()
+    Ok(())
 }
 
 // Why a text doesn't have the form.
-pub fn fault_of(s: &[u8]) -> Fault {
-    if s.len() == 0 {
-        return at_line(Reason::Empty, 0);
+pub fn check(s: &[u8]) -> Result<(), Fault<'_>> {
+    if s.is_empty() {
+        return Err(Fault::Empty);
     }
     if is_byte_order_mark(s) {
-        return at_line(Reason::ByteOrderMark, 0);
+        return Err(Fault::ByteOrderMark);
     }
-    lines_fault(s)
+    check_lines(s)
 }

@@ -5,13 +5,26 @@
 mod faults;
 mod words;
 
-// Says why a text got a refusal by this number.
-pub fn say(rt: &impl Eprint, s: &[u8], number: u32) {
-    words::put_text(rt, "trimlist: ");
-    if number == 9 {
-        words::put_fault(rt, s, faults::fault_of(s));
-    } else {
-        words::put_job(rt, s, number);
+use std::io;
+use words::Job;
+
+fn say_fault(rt: &impl Eprint, s: &[u8]) -> io::Result<()> {
+    match faults::check(s) {
+        Err(fault) => eprintln!(rt; "trimlist: {fault}"),
+        Ok(()) => eprintln!(rt; "trimlist: the text doesn't have the form"),
     }
-    words::put_text(rt, "\n");
+}
+
+// Says why a text got a refusal by this number. Where the line can't be written the program goes on without it.
+// A number and no `Refusal`: as before it may be any number, and a `Refusal` would ask more of the caller.
+pub fn say(rt: &impl Eprint, s: &[u8], number: u32) {
+    let _ = if number == 9 {
+        say_fault(rt, s)
+    } else {
+        let job = Job {
+            text: s,
+            is_known: number != 1,
+        };
+        eprintln!(rt; "trimlist: {job}")
+    };
 }

@@ -1,192 +1,156 @@
-// The words of a reason, written to standard error piece by piece. Where a piece can't be written the reason goes on without it.
-ghost use Rattle.std.specs.Prelude.{◌≤◌};
-
+// The words of a reason.
 use crate::faults::{Fault, Reason, until};
-
-pub fn put_text(rt: &impl Eprint, text: &str) {
-    let _ = rt.eprint(text);
-}
-
-fn put_number(rt: &impl Eprint, n: usize) {
-    let _ = rt.eprint(n);
-}
+use method::Method;
+use std::fmt;
 
 // A byte of the text as it may stand on a terminal.
-fn shown(byte: u8) -> u8 {
-    if byte < b' ' || byte > b'~' {
-        return b'?';
+fn printable(byte: u8) -> char {
+    match byte {
+        b' '..=b'~' => char::from(byte),
+        _ => '?',
     }
-    byte
-}
-
-fn at_most(n: usize, limit: usize) -> usize
-    ensures { result ≤ limit }
-{
-    if n < limit {
-        return n;
-    }
-    limit
-}
-
-fn put_byte(rt: &impl Eprint, byte: u8) {
-    let _ = rt.eprint(char::from(byte));
 }
 
 // A field, cut where it is long.
-fn put_field(rt: &impl Eprint, s: &[u8], from: usize, to: usize) {
-    let end = at_most(to, s.len());
-    let mut i = from;
-    let mut left: usize = 24;
-    while i < end {
-        if left == 0 {
-            put_text(rt, " ..");
-            return;
+#[derive(Clone, Copy)]
+struct Shown<'a>(&'a [u8]);
+
+impl fmt::Display for Shown<'_> {
+    fn fmt<W: fmt::Write>(&self, f: &mut fmt::Formatter<W>) -> fmt::Result {
+        for byte in self.0.iter().take(24) {
+            f.write_char(printable(*byte))?;
         }
-        put_byte(rt, shown(s[i]));
-        left -= 1;
-        i += 1;
+        if self.0.len() > 24 {
+            f.write_str(" ..")?;
+        }
+        Ok(())
     }
 }
 
 // "1 value", "2 values".
-fn put_count(rt: &impl Eprint, n: usize, one: &str) {
-    put_number(rt, n);
-    put_text(rt, one);
-    if n != 1 {
-        put_text(rt, "s");
+#[derive(Clone, Copy)]
+struct Count(usize, &'static str);
+
+impl fmt::Display for Count {
+    fn fmt<W: fmt::Write>(&self, f: &mut fmt::Formatter<W>) -> fmt::Result {
+        let Count(n, one) = *self;
+        let ending = if n == 1 { "" } else { "s" };
+        write!(f, "{n} {one}{ending}")
     }
 }
 
-// "line 4" and what is said of it, and the field where one is named.
-fn put_line(rt: &impl Eprint, line: usize, words: &str) {
-    put_text(rt, "line ");
-    put_number(rt, line);
-    put_text(rt, words);
-}
-
-fn put_with_field(rt: &impl Eprint, s: &[u8], fault: Fault, words: &str) {
-    put_line(rt, fault.line, words);
-    put_text(rt, ": ");
-    put_field(rt, s, fault.from, fault.to);
-}
-
-fn put_values(rt: &impl Eprint, fault: Fault) {
-    put_line(rt, fault.line, ": ");
-    put_count(rt, fault.fields, " value");
-    put_text(rt, ", ");
-    put_count(rt, fault.names, " name");
-}
-
-fn put_empty_field(rt: &impl Eprint, fault: Fault) {
-    put_line(rt, fault.line, ": field ");
-    put_number(rt, fault.fields);
-    put_text(rt, " is empty");
-}
-
-fn put_job_fields(rt: &impl Eprint, fault: Fault) {
-    put_line(rt, fault.line, ": ");
-    put_count(rt, fault.fields, " field");
-    put_text(rt, ", and a job has 3: method, setting and mark");
-}
-
-fn put_many_names(rt: &impl Eprint, fault: Fault) {
-    put_line(rt, fault.line, ": ");
-    put_count(rt, fault.fields, " name");
-    put_text(rt, ", and there may be 8");
-}
-
-// What is wrong with a whole line or a whole text.
-fn put_whole(rt: &impl Eprint, fault: Fault) {
-    let line = fault.line;
-    match fault.reason {
-        Reason::Empty => put_text(rt, "the text is empty"),
-        Reason::ByteOrderMark => put_text(rt, "the text begins with a byte order mark"),
-        Reason::CarriageReturn => {
-            put_line(rt, line, " ends in a carriage return (a Windows file?)")
+impl fmt::Display for Fault<'_> {
+    fn fmt<W: fmt::Write>(&self, f: &mut fmt::Formatter<W>) -> fmt::Result {
+        match *self {
+            Fault::Empty => f.write_str("the text is empty"),
+            Fault::ByteOrderMark => f.write_str("the text begins with a byte order mark"),
+            Fault::NoNewline => f.write_str("the last line has no newline"),
+            Fault::LineMissing(line) => write!(
+                f,
+                "line {line} is missing: a text has a heading, a job and names"
+            ),
+            Fault::InLine { line, reason } => write!(f, "line {line}{reason}"),
         }
-        Reason::FirstLine => put_line(rt, line, " must be: method,setting,mark"),
-        Reason::ManyLines => put_line(rt, line, ": more than 512 lines of values"),
-        Reason::LongLine => put_line(rt, line, " is longer than any line of the form"),
-        Reason::NoNewline => put_text(rt, "the last line has no newline"),
-        Reason::EmptyLine => put_line(rt, line, " is empty"),
-        Reason::Semicolon => put_line(rt, line, " has a semicolon: fields are parted by one comma"),
-        Reason::Space => put_line(rt, line, " has a space or a tab"),
-        Reason::LastComma => put_line(rt, line, " ends in a comma"),
-        Reason::EmptyField => put_empty_field(rt, fault),
-        Reason::JobFields => put_job_fields(rt, fault),
-        Reason::ManyNames => put_many_names(rt, fault),
-        Reason::Values => put_values(rt, fault),
-        Reason::Ends => put_line(
-            rt,
-            line,
-            " is missing: a text has a heading, a job and names",
-        ),
-        _ => put_text(rt, "the text doesn't have the form"),
     }
 }
 
-pub fn put_fault(rt: &impl Eprint, s: &[u8], fault: Fault) {
-    match fault.reason {
-        Reason::MethodCapital => {
-            put_with_field(rt, s, fault, ": a method's name has small letters")
+// What follows "line 4": what is said of the line, and the field where one is named.
+impl fmt::Display for Reason<'_> {
+    fn fmt<W: fmt::Write>(&self, f: &mut fmt::Formatter<W>) -> fmt::Result {
+        match *self {
+            Reason::CarriageReturn => f.write_str(" ends in a carriage return (a Windows file?)"),
+            Reason::FirstLine => f.write_str(" must be: method,setting,mark"),
+            Reason::EmptyLine => f.write_str(" is empty"),
+            Reason::ManyLines => f.write_str(": more than 512 lines of values"),
+            Reason::LongLine => f.write_str(" is longer than any line of the form"),
+            Reason::Semicolon => f.write_str(" has a semicolon: fields are parted by one comma"),
+            Reason::Space => f.write_str(" has a space or a tab"),
+            Reason::LastComma => f.write_str(" ends in a comma"),
+            Reason::EmptyField { place } => write!(f, ": field {place} is empty"),
+            Reason::JobFields { fields } => write!(
+                f,
+                ": {}, and a job has 3: method, setting and mark",
+                Count(fields, "field")
+            ),
+            Reason::ManyNames { names } => {
+                write!(f, ": {}, and there may be 8", Count(names, "name"))
+            }
+            Reason::Values { values, names } => {
+                write!(f, ": {}, {}", Count(values, "value"), Count(names, "name"))
+            }
+            Reason::MethodCapital(field) => {
+                write!(f, ": a method's name has small letters: {}", Shown(field))
+            }
+            Reason::MethodWord(field) => write!(
+                f,
+                ": a method's name has 1 to 16 letters a to z: {}",
+                Shown(field)
+            ),
+            Reason::PlusSign(field) => write!(f, ": a setting has no plus sign: {}", Shown(field)),
+            Reason::Setting(field) => write!(
+                f,
+                ": a setting has 1 to 4 digits, and may have a minus before them: {}",
+                Shown(field)
+            ),
+            Reason::Name(field) => write!(
+                f,
+                ": a name has 1 to 16 letters a to z: {}",
+                Shown(field)
+            ),
+            Reason::Prefix(field) => write!(f, ": a pattern has no 0x before it: {}", Shown(field)),
+            Reason::LowerCase(field) => write!(
+                f,
+                ": a pattern's digits A to F are capitals: {}",
+                Shown(field)
+            ),
+            Reason::Pattern(field) => write!(
+                f,
+                ": a pattern has 8 digits 0 to 9 and A to F: {}",
+                Shown(field)
+            ),
         }
-        Reason::MethodWord => {
-            put_with_field(rt, s, fault, ": a method's name has 1 to 16 letters a to z")
-        }
-        Reason::PlusSign => put_with_field(rt, s, fault, ": a setting has no plus sign"),
-        Reason::Setting => put_with_field(
-            rt,
-            s,
-            fault,
-            ": a setting has 1 to 4 digits, and may have a minus before them",
-        ),
-        Reason::Name => put_with_field(rt, s, fault, ": a name has 1 to 16 letters a to z"),
-        Reason::Prefix => put_with_field(rt, s, fault, ": a pattern has no 0x before it"),
-        Reason::LowerCase => put_with_field(
-            rt,
-            s,
-            fault,
-            ": a pattern's digits A to F are capitals",
-        ),
-        Reason::Pattern => put_with_field(
-            rt,
-            s,
-            fault,
-            ": a pattern has 8 digits 0 to 9 and A to F",
-        ),
-        _ => put_whole(rt, fault),
     }
 }
 
 // Which settings a method takes.
-fn put_range(rt: &impl Eprint, method: u32) {
+fn range(method: Option<Method>) -> &'static str {
     match method {
-        5 => put_text(rt, "a step's exponent from -149 to 127"),
-        6 => put_text(rt, "1 to 7 digits"),
-        _ => put_text(rt, "0 to 23 keep bits"),
+        Some(Method::Absolute) => "a step's exponent from -149 to 127",
+        Some(Method::Digits) => "1 to 7 digits",
+        _ => "0 to 23 keep bits",
     }
 }
 
 // Refusals 1 and 2 are about the method and the setting of a text that has the form: its line 2 begins at byte 20.
-pub fn put_job(rt: &impl Eprint, s: &[u8], number: u32) {
-    if s.len() < 20 {
-        return;
+#[derive(Clone, Copy)]
+pub struct Job<'a> {
+    pub text: &'a [u8],
+    pub is_known: bool,
+}
+
+impl fmt::Display for Job<'_> {
+    fn fmt<W: fmt::Write>(&self, f: &mut fmt::Formatter<W>) -> fmt::Result {
+        let Some(job) = self.text.get(20..) else {
+            return Ok(());
+        };
+        let end = until(job, b',');
+        let method = &job[..end];
+        write!(f, "line 2: {}", Shown(method))?;
+        if !self.is_known {
+            return f.write_str(
+                " is none of shave, set, groom, halfshave, round, absolute and digits",
+            );
+        }
+        write!(
+            f,
+            " takes {}",
+            range(method_word::method_of(method, 0, method.len()))
+        )?;
+        if end == job.len() {
+            return Ok(());
+        }
+        let rest = &job[end + 1..];
+        let setting = &rest[..until(rest, b',')];
+        write!(f, ": {}", Shown(setting))
     }
-    let end = until(s, 20, s.len(), b',', b',');
-    put_text(rt, "line 2: ");
-    put_field(rt, s, 20, end);
-    if number == 1 {
-        put_text(
-            rt,
-            " is none of shave, set, groom, halfshave, round, absolute and digits",
-        );
-        return;
-    }
-    put_text(rt, " takes ");
-    put_range(rt, method_word::method_of(s, 20, end - 20));
-    if end == s.len() {
-        return;
-    }
-    put_text(rt, ": ");
-    put_field(rt, s, end + 1, until(s, end + 1, s.len(), b',', b','));
 }

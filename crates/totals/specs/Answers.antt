@@ -1,9 +1,13 @@
--- The documents' number and values for each case of the answer.
-use Rattle.meaning.specs.Questions.{Outcome, refused, accepted}
+-- The documents' outcome for what totals answers.
+use Rattle.std.specs.Prelude.{Result}
+use Rattle.meaning.specs.Questions.{Outcome}
 use Rattle.meaning.specs.Totals.{Totals}
+use Rattle.refusal.specs.declared.Refusal.{Refusal}
+use Rattle.refusal.specs.Refusals.{outcome_of}
 use Rattle.totals.specs.declared.Total.{Total}
-use Rattle.totals.specs.declared.Total.TheVariants as variants
 
-unfoldable pub answer_of : Total → Outcome Totals
-answer_of (variants.Present count sum) = accepted (record { count = count; sum = sum })
-answer_of (variants.Refused n) = refused n
+abbrev pub values_of : Total → Totals
+values_of t = record { count = t.count; sum = t.sum }
+
+abbrev pub answer_of : Result Total Refusal → Outcome Totals
+answer_of = outcome_of values_of

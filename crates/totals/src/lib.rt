@@ -6,19 +6,22 @@ ghost use Rattle.meaning.specs.Totals.{in_order_sum, one_present, if_present, to
 ghost use Rattle.totals.specs.Answers.{answer_of};
 ghost use Rattle.totals.specs.Gathered.{value_at, Room, added, added_at, joined_of, Gathered};
 
-// The answer: how many codes are present, and their sum; or the refusal's number.
-#[derive(Clone, Copy)]
-pub enum Total {
-    Present { count: u32, sum: u32 },
-    Refused(u32),
+use refusal::Refusal;
+
+// How many codes are present, and their sum.
+#[derive(Clone, Copy, Debug, PartialEq, Eq)]
+pub struct Total {
+    pub count: u32,
+    pub sum: u32,
 }
 
 // 1, or 0 where the code is the missing one.
+#[tactic(auto, unfolding(meaning::specs::Totals::one_present))]
 fn one_present(code: u16, missing: u16) -> u16
     ensures is { result ≡ one_present missing code }
     ensures small { result ≤ 1 }
 {
-    if code == missing { 0 } else { 1 }
+    u16::from(code != missing)
 }
 
 // The number of the present codes of half a layer. It fits in 16 bits, as a code does, so that the compiler counts eight codes at a time.
@@ -28,10 +31,8 @@ fn count_half(codes: &[u16], missing: u16) -> u16
     ensures small { result ≤ 32768 }
 {
     let mut count: u16 = 0;
-    let mut i: usize = 0;
-    while i < codes.len() {
-        count += one_present(codes[i], missing);
-        i += 1;
+    for code in codes {
+        count += one_present(*code, missing);
     }
     count
 }
@@ -48,6 +49,7 @@ fn count_present(codes: &[u16], missing: u16) -> u32
 }
 
 // The code, or 0 where it is the missing one.
+#[tactic(auto, unfolding(meaning::specs::Totals::if_present))]
 fn if_present(code: u16, missing: u16) -> u32
     ensures is { result ≡ if_present missing code }
     ensures small { result ≤ 65535 }
@@ -59,10 +61,10 @@ fn if_present(code: u16, missing: u16) -> u32
 fn code_at(codes: &[u16], i: usize, missing: u16) -> u16
     ensures { result ≡ value_at missing codes.now i }
 {
-    if i < codes.len() { codes[i] } else { missing }
+    codes.get(i).copied().unwrap_or(missing)
 }
 
-// Four sums: lane a takes the places 0, 4, 8 .., lane b the places 1, 5, 9 .., and so on.
+// Four sums: lane a takes the places 0, 4, 8 .., lane b the places 1, 5, 9 .., and so on. By name and no array: a loop over four lanes would be no plainer than four lines.
 #[derive(Clone, Copy)]
 pub struct Lanes {
     pub a: u32,
@@ -119,7 +121,7 @@ fn onward(i: usize) -> usize
     (i + 8) % 131072
 }
 
-// The present codes gathered in four lanes, place mod 4.
+// The present codes gathered in four lanes, place mod 4. The place is counted by hand, since how it goes on is chosen for the compiler, as `onward` says.
 fn gather(codes: &[u16], missing: u16) -> Lanes
     requires { length codes.now ≤ 65536 }
     ensures { Gathered (if_present missing) codes.now result }
@@ -148,23 +150,23 @@ fn join_lanes(lanes: Lanes) -> u32
     lanes.a + lanes.b + lanes.c + lanes.d
 }
 
-// The totals of one layer's codes, of the given width. Or answers the refusal's number: 3 where there are no codes or more than 65,536, 11 for a width that isn't 2 to 16,
+// The totals of one layer's codes, of the given width. Or answers the refusal: 3 where there are no codes or more than 65,536, 11 for a width that isn't 2 to 16,
 // 12 for a code above the missing code of the width.
-pub fn totals(codes: &[u16], width: u32) -> Total
+pub fn totals(codes: &[u16], width: u32) -> Result<Total, Refusal>
     ensures { answer_of result ≡ totals width codes.now }
 {
     if !asking_layers::length_in_range(codes.len()) {
-        return Total::Refused(3);
+        return Err(Refusal::LengthOutOfRange);
     }
     if !asking_layers::width_in_range(width) {
-        return Total::Refused(11);
+        return Err(Refusal::WidthOutOfRange);
     }
     let missing = layer_width::missing_of(width);
     if missing < asking_codes::bits_of(codes) {
-        return Total::Refused(12);
+        return Err(Refusal::CodeOutOfRange);
     }
     let count = count_present(codes, missing);
     let lanes = gather(codes, missing);
     let sum = join_lanes(lanes);
-    Total::Present { count, sum }
+    Ok(Total { count, sum })
 }

@@ -1,18 +1,22 @@
--- The documents' number and values for each case of a trim's answer.
+-- The documents' six counts, by a trim's answer and by the sums over an array.
 use Rattle.std.specs.Prelude.{◌-◌}
-use Rattle.meaning.specs.Methods.{Counts}
-use Rattle.meaning.specs.Questions.{Outcome, refused, accepted}
+use Rattle.meaning.specs.Methods as meant
 use Rattle.reading.specs.Left.{Tally}
-use Rattle.trim.specs.declared.Answer.{Answer}
-use Rattle.trim.specs.declared.Answer.TheVariants as variants
+use Rattle.trim.specs.declared.Counts.{Counts}
 
-unfoldable pub answer_of : Answer → Outcome Counts
-answer_of (variants.Counts changed spared clipped missing risen fallen) =
-    accepted (record { changed_places = changed; spared_places = spared; clipped_places = clipped; missing_places = missing; risen_places = risen; fallen_places = fallen })
-answer_of (variants.Refused n) = refused n
+abbrev pub counts : Counts → meant.Counts
+counts c =
+    record {
+      changed_places = c.changed;
+      spared_places = c.spared;
+      clipped_places = c.clipped;
+      missing_places = c.missing;
+      risen_places = c.risen;
+      fallen_places = c.fallen;
+    }
 
--- the six counts, by the sums over an array: a spared place is one of the mark that isn't missing, a fallen one is a changed one that didn't rise
-abbrev pub counts_of : Tally → Counts
+-- a spared place is one of the mark that isn't missing, a fallen one is a changed one that didn't rise
+abbrev pub counts_of : Tally → meant.Counts
 counts_of t =
     record {
       changed_places = t.changed;

@@ -1,11 +1,11 @@
 -- The whole call against the definitions: the code's number of the questions, and what an accepted call and a refused one answer and leave.
-use mathlib.Core.Path.{◌≡◌, refl, sym, ◌∙◌}
+use mathlib.Core.Path.{◌≡◌, refl, sym, ap, ◌∙◌}
 use mathlib.Core.Logic.{◌≢◌}
 use mathlib.Core.Bool.{Bool, true, false, cond, ◌&&◌}
 use mathlib.Core.List.{List, [], ◌∷◌, map, zip_with}
 use Prim.Native.Nat.{ℕ, suc}
 use native.Mathlib.Omega.{arith}
-use borrow.Author.Tests.{eq-eqb, ne_eqb, eqb-true, eqb-false, leb-true}
+use borrow.Author.Tests.{eq-eqb, ne_eqb, eqb-true, leb-true}
 use lib.Dec.{leb, eqb}
 use lib.IntN.{ℤ}
 use lib.ListN.{length, get_or, length-map}
@@ -33,85 +33,82 @@ all_patterns (r ∷ rs) h = rw (sym (pattern_finite binary32 r (h 0)), all_patte
 abbrev done : Outcome (Unit {0})
 done = accepted tt
 
--- the questions on values, after those on layers and before those that are left
-after_lengths : (n : ℕ) (k m : Bool) (rest : Outcome (Unit {0}))
-    → cond (eqb n 0) (ask k 7 (ask m 8 rest)) (refused n) ≡ cond (eqb (refusal_of n k m) 0) rest (refused (refusal_of n k m))
+-- the questions on values, before those that are left
+values_asked : (k m : Bool) (rest : Outcome (Unit {0})) → ask k 7 (ask m 8 rest) ≡ cond (eqb (refusal_of k m) 0) rest (refused (refusal_of k m))
 unfolding ask refusal_of
-after_lengths n k m rest = go (eqb n 0) refl k m
-  where
-    go : (b : Bool) → eqb n 0 ≡ b → (k m : Bool)
-        → cond b (cond k (cond m rest (refused 8)) (refused 7)) (refused n)
-        ≡ cond (eqb (cond b (cond k (cond m 0 8) 7) n) 0) rest (refused (cond b (cond k (cond m 0 8) 7) n))
-    go true e true true = refl
-    go true e true false = refl
-    go true e false m = refl
-    go false e k m = rw e refl
+values_asked true true rest = refl
+values_asked true false rest = refl
+values_asked false m rest = refl
 
-none_refused : (n : ℕ) (k m : Bool) → refusal_of n k m ≡ 0 → (n ≡ 0) × (k ≡ true)
+none_refused : (k m : Bool) → refusal_of k m ≡ 0 → k ≡ true
 unfolding refusal_of
-none_refused n k m h = go (eqb n 0) refl k m h
-  where
-    go : (b : Bool) → eqb n 0 ≡ b → (k m : Bool) → cond b (cond k (cond m 0 8) 7) n ≡ 0 → (n ≡ 0) × (k ≡ true)
-    go true e true m h = (eqb-true n 0 e, refl)
-    go true e false m h = absurd (omega arith)
-    go false e k m h = absurd (eqb-false n 0 e h)
+none_refused true m h = refl
+none_refused false m h = absurd (omega arith)
 
--- the code's number of the questions on layers, its number after those on values, and its answer to that on codes
-module _ (mark L : ℕ) (ws cs : List ℕ) (rs : List Float) (es : List ℤ) (ys : List ℕ) (single : Singles rs) (n no : ℕ)
-    (el : n ≡ layer_refusal L (length cs) (eqb (length ys) (length cs)) (length rs ∷ length es ∷ []) ws)
-    (en : no ≡ refusal_of n (all finite_float rs && all exponent_in_range es) (is_nan 52 11 mark)) where
+-- the number of the questions on layers, that of those on values, and the code's answer to that on codes
+module _ (mark L : ℕ) (ws cs : List ℕ) (rs : List Float) (es : List ℤ) (ys : List ℕ) (single : Singles rs) where
+  abbrev by_layers : ℕ
+  by_layers = layer_refusal L (length cs) (eqb (length ys) (length cs)) (length rs ∷ length es ∷ []) ws
+
+  abbrev by_values : ℕ
+  by_values = refusal_of (all finite_float rs && all exponent_in_range es) (is_nan 52 11 mark)
+
   abbrev codes_known : Bool
   codes_known = all (λ good. good) (zip_with (λ w part. all (code_in_range w) part) ws (layers L cs))
 
-  asked_is : unpack_questions mark L ws cs (map (to_bits binary32) rs) es (length ys) ≡ cond (eqb no 0) (ask codes_known 12 done) (refused no)
+  asked_is : unpack_questions mark L ws cs (map (to_bits binary32) rs) es (length ys)
+      ≡ cond (eqb by_layers 0) (cond (eqb by_values 0) (ask codes_known 12 done) (refused by_values)) (refused by_layers)
   unfolding unpack_questions
   asked_is =
-      rw (length-map, all_patterns rs single, en, el)
+      rw (length-map, all_patterns rs single)
       (layers_asked L (length cs) (eqb (length ys) (length cs)) (length rs) (length es) ws _
-      ∙ after_lengths (layer_refusal L (length cs) (eqb (length ys) (length cs)) (length rs ∷ length es ∷ []) ws) (all finite_float rs && all exponent_in_range es) (is_nan 52 11 mark)
-      (ask codes_known 12 done))
+      ∙ ap (λ (rest : Outcome (Unit {0})). cond (eqb by_layers 0) rest (refused by_layers))
+      (values_asked (all finite_float rs && all exponent_in_range es) (is_nan 52 11 mark) (ask codes_known 12 done)))
 
   abbrev left : AfterUnpack
   left = unpack mark L ws cs (map (to_bits binary32) rs) es ys
 
-  pub refused_call : no ≢ 0 → (refused no ≡ left.answer) × (ys ≡ left.readings)
+  pub refused_layers : by_layers ≢ 0 → (refused by_layers ≡ left.answer) × (ys ≡ left.readings)
   unfolding unpack leaving
-  refused_call h = rw (asked_is, ne_eqb no 0 h) (refl, refl)
+  refused_layers h = rw (asked_is, ne_eqb by_layers 0 h) (refl, refl)
 
-  pub refused_codes : no ≡ 0 → codes_known ≡ false → (refused 12 ≡ left.answer) × (ys ≡ left.readings)
-  unfolding unpack leaving ask
-  refused_codes h c = rw (asked_is, eq-eqb no 0 h, c) (refl, refl)
+  pub refused_values : by_layers ≡ 0 → by_values ≢ 0 → (refused by_values ≡ left.answer) × (ys ≡ left.readings)
+  unfolding unpack leaving
+  refused_values l h = rw (asked_is, eq-eqb by_layers 0 l, ne_eqb by_values 0 h) (refl, refl)
 
-  asked_lengths : no ≡ 0 → (Lengths L (length cs) (eqb (length ys) (length cs)) (length rs) (length es) ws) × (all finite_float rs && all exponent_in_range es ≡ true)
-  asked_lengths h =
-      let t = none_refused n (all finite_float rs && all exponent_in_range es) (is_nan 52 11 mark) (sym en ∙ h) in
-      (lengths L (length cs) (eqb (length ys) (length cs)) (length rs) (length es) ws (sym el ∙ t.0), t.1)
+  module _ (l : by_layers ≡ 0) (v : by_values ≡ 0) where
+    pub refused_codes : codes_known ≡ false → (refused 12 ≡ left.answer) × (ys ≡ left.readings)
+    unfolding unpack leaving ask
+    refused_codes c = rw (asked_is, eq-eqb by_layers 0 l, eq-eqb by_values 0 v, c) (refl, refl)
 
-  pub known : no ≡ 0 → Known ws cs rs es L (length ys)
-  known h =
-      let l = (asked_lengths h).0 in
-      let v = (asked_lengths h).1 in
-      record {
-        whole = l.whole;
-        as_many = eqb-true (length ys) (length cs) l.as_many;
-        one_width = l.one_width;
-        one_reference = l.one_reference;
-        one_exponent = l.one_exponent;
-        widths_known = l.widths_known;
-        references_known = and_first (all finite_float rs) (all exponent_in_range es) v;
-        exponents_known = and_second (all finite_float rs) (all exponent_in_range es) v;
-      }
+    asked_lengths : Lengths L (length cs) (eqb (length ys) (length cs)) (length rs) (length es) ws
+    asked_lengths = lengths L (length cs) (eqb (length ys) (length cs)) (length rs) (length es) ws l
 
-  pub in_layers : no ≡ 0 → InLayers L ws cs
-  in_layers h =
-      let l = (asked_lengths h).0 in
-      record {
-        some = l.some;
-        whole = l.whole;
-        one_width = l.one_width;
-        few_bits = λ i k. let w = get_or ws i 0 in leb-true w 16 (and_second (leb 2 w) (leb w 16) (all_at width_in_range 0 ws l.widths_known i k));
-      }
+    pub known : Known ws cs rs es L (length ys)
+    known =
+        let q = asked_lengths in
+        let k = none_refused (all finite_float rs && all exponent_in_range es) (is_nan 52 11 mark) v in
+        record {
+          whole = q.whole;
+          as_many = eqb-true (length ys) (length cs) q.as_many;
+          one_width = q.one_width;
+          one_reference = q.one_reference;
+          one_exponent = q.one_exponent;
+          widths_known = q.widths_known;
+          references_known = and_first (all finite_float rs) (all exponent_in_range es) k;
+          exponents_known = and_second (all finite_float rs) (all exponent_in_range es) k;
+        }
 
-  pub accepted_call : no ≡ 0 → codes_known ≡ true → (done ≡ left.answer) × (unpacked_codes mark L (stored_layers ws (map (to_bits binary32) rs) es) cs ≡ left.readings)
-  unfolding unpack leaving ask
-  accepted_call h c = rw (asked_is, eq-eqb no 0 h, c) (refl, refl)
+    pub in_layers : InLayers L ws cs
+    in_layers =
+        let q = asked_lengths in
+        record {
+          some = q.some;
+          whole = q.whole;
+          one_width = q.one_width;
+          few_bits = λ i k. let w = get_or ws i 0 in leb-true w 16 (and_second (leb 2 w) (leb w 16) (all_at width_in_range 0 ws q.widths_known i k));
+        }
+
+    pub accepted_call : codes_known ≡ true → (done ≡ left.answer) × (unpacked_codes mark L (stored_layers ws (map (to_bits binary32) rs) es) cs ≡ left.readings)
+    unfolding unpack leaving ask
+    accepted_call c = rw (asked_is, eq-eqb by_layers 0 l, eq-eqb by_values 0 v, c) (refl, refl)

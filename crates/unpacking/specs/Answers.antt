@@ -1,8 +1,8 @@
--- Document 01's number and value for each case of an unpacking's answer.
-use Rattle.meaning.specs.Questions.{Outcome, refused, accepted}
-use Rattle.unpacking.specs.declared.Unpacked.{Unpacked}
-use Rattle.unpacking.specs.declared.Unpacked.TheVariants.{Done, Refused}
+-- The documents' outcome for what an unpacking answers.
+use Rattle.std.specs.Prelude.{Result}
+use Rattle.meaning.specs.Questions.{Outcome}
+use Rattle.refusal.specs.declared.Refusal.{Refusal}
+use Rattle.refusal.specs.Refusals.{outcome_of}
 
-unfoldable pub answer_of : Unpacked → Outcome (Unit {0})
-answer_of Done = accepted tt
-answer_of (Refused n) = refused n
+abbrev pub answer_of : Result (Unit {0}) Refusal → Outcome (Unit {0})
+answer_of = outcome_of (λ done. done)

@@ -10,14 +10,11 @@ ghost use Rattle.meaning.specs.Calls.{stored_layers, unpack};
 ghost use Rattle.unpacking.specs.Answers.{answer_of};
 ghost use Rattle.unpacking.specs.Known.{Known};
 
-// The answer of an unpacking: done, or the refusal's number.
-#[derive(Clone, Copy)]
-pub enum Unpacked {
-    Done,
-    Refused(u32),
-}
+use decoding::LayerFloats;
+use refusal::Refusal;
 
 // Unpacks the layers, runs of `run` codes, one after another, each into its own part of the readings. All lengths fit, and every width, reference and exponent is known.
+// What a layer has stands in three arrays, as C lends them. Its part is cut by hand: of a slice that `chunks_mut` lent, a proof knows the length alone.
 fn unpack_layers(
     widths: &[u32],
     codes: &[u16],
@@ -31,23 +28,16 @@ fn unpack_layers(
     ensures { readings.new
         ≡ unpacked_codes mark run (stored_layers widths.now (map (to_bits binary32) references.now) exponents.now) codes.now }
 {
-    let mut from: usize = 0;
-    let mut i: usize = 0;
-    while i < references.len() {
+    let mut from = 0;
+    for (i, reference) in references.iter().enumerate() {
         let to = from + run;
-        let reference = references[i];
-        let exponent = exponents[i];
-        let step = decoding::step_of(exponent);
-        let missing = layer_width::missing_of(widths[i]) as f64;
-        let l = decoding::LayerFloats {
-            reference,
-            step,
-            missing,
+        let layer = LayerFloats {
+            reference: *reference,
+            step: decoding::step_of(exponents[i]),
+            missing: layer_width::missing_of(widths[i]) as f64,
         };
-        let part = &codes[from..to];
-        decoding::unpack_layer(part, l, mark, &mut readings[from..to]);
+        decoding::unpack_layer(&codes[from..to], layer, mark, &mut readings[from..to]);
         from = to;
-        i += 1;
     }
 }
 
@@ -62,28 +52,24 @@ pub fn unpack(
     length: usize,
     mark: u64,
     readings: &mut [u64],
-) -> Unpacked
+) -> Result<(), Refusal>
     ensures answer { answer_of result
         ≡ (unpack mark length widths.now codes.now (map (to_bits binary32) references.now) exponents.now readings.old).answer }
     ensures content { readings.new
         ≡ (unpack mark length widths.now codes.now (map (to_bits binary32) references.now) exponents.now readings.old).readings }
 {
-    let layers = asking_layers::ask_layers(
+    asking_layers::ask_layers(
         length,
         codes.len(),
         readings.len() == codes.len(),
         widths,
         references.len(),
         exponents.len(),
-    );
-    let no = asking_values::ask_values(layers, references, exponents, mark);
-    if no != 0 {
-        return Unpacked::Refused(no);
-    }
-    let known = asking_codes::all_known(codes, length, widths);
-    if !known {
-        return Unpacked::Refused(12);
+    )?;
+    asking_values::ask_values(references, exponents, mark)?;
+    if !asking_codes::all_known(codes, length, widths) {
+        return Err(Refusal::CodeOutOfRange);
     }
     unpack_layers(widths, codes, references, exponents, length, mark, readings);
-    Unpacked::Done
+    Ok(())
 }

@@ -1,10 +1,5 @@
-use Prim.Native.Nat.{◌-◌}
-use lib.ListN.{length}
 use Rattle.all_layers.proofs.Turns.{Turn}
 use Rattle.all_layers.proofs.pack_layers.Given as goal
 
 abbrev pub invariant-loop-i : goal.invariant-loop-i
 invariant-loop-i l = Turn l.readings l.mark l.run l.widths l.initial.codes l.initial.references l.initial.exponents l.codes l.references l.exponents l.from l.i
-
-abbrev pub decreases-loop-i : goal.decreases-loop-i
-decreases-loop-i l = length l.initial.references - l.i

@@ -1,5 +1,5 @@
 -- By the method.
-use Rattle.std.proofs.Common.{refl, ◌∙◌, sym, rules}
+use Rattle.std.proofs.Common.{refl, ◌∙◌, sym}
 use Rattle.loops.specs.Methods.{add_by}
 use Rattle.arrays.proofs.Others.{others_add}
 use Rattle.arrays.proofs.add_for.Goals as goal

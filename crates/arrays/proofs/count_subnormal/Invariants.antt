@@ -1,5 +1,3 @@
-use Rattle.std.proofs.Common.{length}
-use Prim.Native.Nat.{◌≤◌}
 use Rattle.arrays.proofs.Rest.{Found}
 use Rattle.arrays.proofs.count_subnormal.Given as goal
 

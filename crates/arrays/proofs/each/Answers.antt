@@ -1,10 +1,10 @@
 -- The walk's laws at each reading.
-use Rattle.std.proofs.Common.{◌≡◌, ℕ, ◌+◌, ◌<◌, ◌≤◌, length, get_or, sym, refl, arith, rules}
+use Rattle.std.proofs.Common.{◌+◌, ◌<◌, length, sym, refl, arith}
 use lib.ListN.{length-set}
 use lib.Seq.{get_or-set_other}
 use mathlib.Core.Path.{subst, ◌∙◌}
 use Rattle.std.proofs.lemmas.List.{length-map}
-use Rattle.reading.specs.Left.{Tally, Settled}
+use Rattle.reading.specs.Left.{Tally}
 use Rattle.loops.specs.Tallies.{Few}
 use Rattle.loops.proofs.Tallies.{few_none, few_plus}
 use Rattle.loops.proofs.Walks.{begin, end}

@@ -1,5 +1,5 @@
 -- The constants are those of the method's keep bits.
-use Rattle.std.proofs.Common.{refl, sym, ap, ◌∙◌, rules}
+use Rattle.std.proofs.Common.{refl, ap, ◌∙◌}
 use Rattle.reading.specs.Tails.{constants}
 use Rattle.arrays.proofs.Others.{keep_fits}
 use Rattle.arrays.proofs.job_of.Goals as goal

@@ -1,5 +1,5 @@
 -- By the method.
-use Rattle.std.proofs.Common.{refl, sym, rules}
+use Rattle.std.proofs.Common.{sym}
 use mathlib.Core.Logic.{⊎_elim}
 use Rattle.loops.specs.Methods.{keep_of}
 use Rattle.arrays.proofs.Others.{others_keep}

@@ -1,7 +1,7 @@
 -- By the method, each loop's outcome is the method's.
-use Rattle.std.proofs.Common.{◌≡◌, ℕ, sym, ap, arith, rules}
+use Rattle.std.proofs.Common.{ℕ, sym, ap, arith}
 use mathlib.Core.Path.{subst}
-use Prim.Native.Nat.{◌≤◌, ◌<◌}
+use Prim.Native.Nat.{◌≤◌}
 use Rattle.method.specs.Kinds.{number_of}
 use Rattle.loops.proofs.Methods.{suits_tail, suits_keep, add_fits, by_tail, by_round, by_absolute, by_digits}
 use Rattle.arrays.proofs.Outcomes.{trimmed_as}

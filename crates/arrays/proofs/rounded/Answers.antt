@@ -1,9 +1,8 @@
 -- What one reading is left as, all are; with no tail nothing is added.
-use Rattle.std.proofs.Common.{ℕ, ◌-◌, ◌≡◌, rules, sym, arith, ◌≢◌}
-use mathlib.Core.Path.{subst}
-use Prim.Native.Nat.{◌≤◌, zero-le}
+use Rattle.std.proofs.Common.{◌-◌, rules}
+use Prim.Native.Nat.{zero-le}
 use Rattle.meaning.specs.Methods.{round}
-use Rattle.reading.specs.Left.{Settled, settled_by, settled_tail}
+use Rattle.reading.specs.Left.{settled_by}
 use Rattle.loops.proofs.Tallies.{one_by}
 use Rattle.loops.proofs.Methods.{by_none}
 use Rattle.arrays.proofs.Outcomes.{counts_of, trimmed_as}

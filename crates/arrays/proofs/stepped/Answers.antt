@@ -1,5 +1,5 @@
 -- What one reading is left as, all are, by either way.
-use Rattle.std.proofs.Common.{ℕ, rules}
+use Rattle.std.proofs.Common.{rules}
 use Rattle.meaning.specs.Methods.{absolute}
 use Rattle.reading.specs.Left.{settled_by}
 use Rattle.loops.proofs.Tallies.{one_by}

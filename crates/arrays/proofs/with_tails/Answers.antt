@@ -1,5 +1,5 @@
 -- What one reading is left as, all are.
-use Rattle.std.proofs.Common.{ℕ, rules}
+use Rattle.std.proofs.Common.{rules}
 use Rattle.reading.specs.Left.{settled_tail}
 use Rattle.loops.proofs.Tallies.{one_tail}
 use Rattle.arrays.proofs.Outcomes.{counts_of}

@@ -1,13 +1,14 @@
--- `ask_single` meets its contract, by the laws of `Answers`.
-use mathlib.Core.Path.{ap, ◌∙◌}
-use mir.Facts.{to_z-of_z}
-use Rattle.asking.proofs.Answers.{marked, answer_is, single_small}
+-- The code's limits are those of the width.
+use Rattle.std.proofs.Common.{refl, w32}
+use Rattle.std.proofs.lemmas.Int.{to_z-of_z}
+use Rattle.meaning.specs.Readings.{least_exp}
+use Rattle.meaning.specs.Methods.{digits_from, digit_count}
+use Rattle.asking.specs.Asked.{limits_of}
 use Rattle.asking.proofs.ask_single.Goals as goal
 
 pub returns : goal.returns
+unfolding limits_of least_exp digit_count digits_from
 returns c =
-    let s = c in
-    let method = s.args.method in
-    let z = s.args.setting in
-    let e = c.number_single.ensures ∙ ap (marked 23 8 method) (to_z-of_z s.ranges.setting) in
-    let a = answer_is 23 8 method z (single_small method z) _ e in record { refusal = c.answer.ensures.refusal ∙ a.0; number = c.answer.ensures.number ∙ a.1 }
+    let a = simp (to_z-of_z w32 c.args.setting c.ranges.setting) at (c.ask.ensures.refusal 23 8 refl) in
+    let b = simp (to_z-of_z w32 c.args.setting c.ranges.setting) at (c.ask.ensures.number 23 8 refl) in
+    record { refusal = a; number = b; method = c.ask.ensures.method }

@@ -1,14 +1,13 @@
--- `bits_of` meets its contract: the bits of the codes before place i, beside those that are left.
-use borrow.Author.Rules.{rules}
-use mathlib.Core.Path.{refl}
-use Rattle.asking_codes.proofs.Bits.{start, turn, end}
+use mathlib.Core.Path.{◌≡◌, sym, subst}
+use Prim.Native.Nat.{ℕ}
+use lib.Bits.{bit_or}
+use Rattle.std.proofs.Common.{rules}
+use Rattle.std.specs.List.{fold}
+use Rattle.asking_codes.specs.Codes.{BitsOf}
+use Rattle.asking_codes.proofs.Bits.{bits_gathered}
 use Rattle.asking_codes.proofs.bits_of.Goals as goal
 
-pub loop-i-init : goal.loop-i-init
-loop-i-init c = start _
-
-pub loop-i-preserved : goal.loop-i-preserved
-loop-i-preserved c = turn _ _ _ _ (search rules) refl c.loop-i.invariant
-
 pub returns : goal.returns
-returns c = end c.args.codes.now c.loop-i.bits c.loop-i.i (search rules) c.loop-i.invariant
+returns c =
+    let e : c.fold.result ≡ fold bit_or 0 c.args.codes.now = search rules in
+    subst (λ (n : ℕ). BitsOf n c.args.codes.now) (sym e) (bits_gathered c.args.codes.now)

@@ -1,21 +1,13 @@
--- `one_each` meets its contract: by its three tests.
-use borrow.Author.Tests.{eq-eqb, ne_eqb}
+use lib.Dec.{eqb}
+use mathlib.Core.List.{[], ◌∷◌}
+use Rattle.std.proofs.Common.{rules, tests}
+use Rattle.std.proofs.lemmas.Iterator.{YieldsList-from_slice}
+use Rattle.std.proofs.lemmas.Iterator.Search.{all_from_yields_List}
 use Rattle.meaning.specs.Questions.{all}
 use Rattle.asking_layers.proofs.one_each.Goals as goal
-
-pub returns-then-widths-layers : goal.returns-then-widths-layers
-returns-then-widths-layers c = simp (ne_eqb _ _ c.if-widths-layers.true)
-
-pub returns-then-references-layers : goal.returns-then-references-layers
-unfolding all
-returns-then-references-layers c = simp (eq-eqb _ _ c.if-widths-layers.false, ne_eqb _ _ c.if-references-layers.true)
-
-pub returns-then-exponents-layers : goal.returns-then-exponents-layers
-unfolding all
-returns-then-exponents-layers c =
-    simp (eq-eqb _ _ c.if-widths-layers.false, eq-eqb _ _ c.if-references-layers.false, ne_eqb _ _ c.if-exponents-layers.true)
 
 pub returns : goal.returns
 unfolding all
 returns c =
-    simp (eq-eqb _ _ c.if-widths-layers.false, eq-eqb _ _ c.if-references-layers.false, eq-eqb _ _ c.if-exponents-layers.false)
+    let s = c.args in
+    all_from_yields_List (λ k. eqb k s.layers) _ _ _ c.all.ensures.ran (YieldsList-from_slice (s.widths ∷ s.references ∷ s.exponents ∷ []) c.iter.ensures.rest) (λ x b q k. search (rules, tests))

@@ -1,21 +1,12 @@
--- `all_finite` meets its contract: the references before place i are finite.
-use mathlib.Core.Path.{refl, sym, ◌∙◌}
-use native.Mathlib.Omega.{arith}
-use lib.Ieee.{nan}
+use mathlib.Core.Path.{◌∙◌}
+use Rattle.std.proofs.Common.{rules, tests}
+use Rattle.std.proofs.lemmas.Iterator.{YieldsList-from_slice}
+use Rattle.std.proofs.lemmas.Iterator.Search.{all_from_yields_List}
 use Rattle.decoding.specs.Floats.{finite_float}
-use Rattle.asking_layers.proofs.Every.{left_passes, left_fails, left_none}
+use Rattle.asking_layers.proofs.Every.{list_all_is_all}
 use Rattle.asking_values.proofs.all_finite.Goals as goal
 
-pub loop-i-init : goal.loop-i-init
-loop-i-init c = (omega arith, refl)
-
-pub returns-then-not-is_finite : goal.returns-then-not-is_finite
-returns-then-not-is_finite c =
-    left_fails finite_float nan _ c.loop-i.i (omega arith) (sym c.is_finite.ensures ∙ c.if-not-is_finite.true) c.loop-i.invariant.1
-
-pub loop-i-preserved : goal.loop-i-preserved
-loop-i-preserved c =
-    (omega arith, left_passes finite_float nan _ c.loop-i.i (omega arith) (sym c.is_finite.ensures ∙ c.if-not-is_finite.false) c.loop-i.invariant.1)
-
 pub returns : goal.returns
-returns c = left_none finite_float nan _ c.loop-i.i (omega arith) c.loop-i.invariant.1
+returns c =
+    all_from_yields_List finite_float _ _ _ c.all.ensures.ran (YieldsList-from_slice c.args.references.now cc) (λ x b q k. search (rules, tests))
+    ∙ list_all_is_all finite_float c.args.references.now

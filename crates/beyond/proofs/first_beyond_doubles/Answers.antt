@@ -1,31 +1,44 @@
 -- Refused or accepted, by the laws of `Calls`.
-use mathlib.Core.Path.{◌≡◌, ap, ◌∙◌}
-use lib.IntN.{ℤ}
-use mir.Facts.{to_z-of_z}
-use Rattle.asking.specs.Asked.{refusal_of, asked_number}
-use Rattle.beyond.specs.Answers.{answer_of}
-use Rattle.beyond.proofs.Calls.{refused_first, none_refused, in_range, double_limit}
+use Rattle.std.proofs.Common.{◌∙◌, ap, ℤ, w32, rules, ◌<◌}
+use Rattle.std.proofs.lemmas.Int.{to_z-of_z}
+use Rattle.std.proofs.lemmas.Result.{err_from_is_err_and}
+use Rattle.meaning.specs.Questions.{accepted}
+use Rattle.asking.specs.Asked.{refusal_of}
+use Rattle.beyond.proofs.Walk.{Says, scanned, FirstTrue-weaker}
+use Rattle.beyond.proofs.Calls.{lengths_refused, limit_refused, in_range, double_limit}
 use Rattle.beyond.proofs.first_beyond_doubles.Goals as goal
-use Rattle.beyond.proofs.first_beyond_doubles.Goals.{After-ask_double-asked}
 
--- what was asked of p: the refusal's number, and p counted from the exponent of the least spacing
-refusal : (c : After-ask_double-asked) → c.ask_double-asked.result.refusal ≡ refusal_of 52 11 5 c.args.p
-refusal c = c.ask_double-asked.ensures.refusal ∙ ap (λ (z : ℤ). refusal_of 52 11 5 z) (to_z-of_z c.ranges.p)
+pub returns-in_err-ask_lengths : goal.returns-in_err-ask_lengths
+returns-in_err-ask_lengths c =
+    let p = err_from_is_err_and c.from_residual.result c.from_residual.ensures.1 in
+    rw (p.1, p.2, c.in_err-ask_lengths.ensures.0) (lengths_refused 52 11 c.args.mark c.args.p c.args.raw.now c.args.trimmed.now c.in_err-ask_lengths.ensures.1)
 
-number : (c : After-ask_double-asked) → c.ask_double-asked.result.number ≡ asked_number 52 11 5 c.args.p
-number c = c.ask_double-asked.ensures.number ∙ ap (λ (z : ℤ). asked_number 52 11 5 z) (to_z-of_z c.ranges.p)
+pub returns-in_err-asked : goal.returns-in_err-asked
+returns-in_err-asked c =
+    let p = err_from_is_err_and c.from_residual-in_err-asked.result c.from_residual-in_err-asked.ensures.1 in
+    let e = rw c.number.ensures at c.in_err-asked.ensures.refusal in
+    rw (p.1, p.2) (limit_refused 52 11 c.args.mark c.args.p c.args.raw.now c.args.trimmed.now c.in_ok-ask_lengths.ensures c.in_err-asked.field-0.0
+    (e ∙ ap (λ (z : ℤ). refusal_of 52 11 5 z) (to_z-of_z w32 c.args.p c.ranges.p)))
 
-pub returns-then-refusal-ne0 : goal.returns-then-refusal-ne0
-unfolding answer_of
-returns-then-refusal-ne0 c =
-    refused_first 52 11 _ _ _ _ _ _ _ c.ask_lengths.ensures (refusal (goal.at.returns-then-refusal-ne0 c).After-ask_double-asked) c.first_no-refusal.ensures c.if-refusal-ne0.true
+pub limit_double-limit-requires : goal.limit_double-limit-requires
+limit_double-limit-requires c =
+    let a = rw (c.number.ensures, to_z-of_z w32 c.args.p c.ranges.p) at c.in_ok-asked.ensures.refusal in
+    let b = rw (c.number.ensures, to_z-of_z w32 c.args.p c.ranges.p) at c.in_ok-asked.ensures.number in
+    double_limit c.args.p c.from-q.result a (c.from-q.ensures ∙ b)
 
 pub scan-requires : goal.scan-requires
 scan-requires c =
-    let n = none_refused _ _ _ _ _ c.ask_lengths.ensures c.first_no-refusal.ensures c.if-refusal-ne0.false in
-    (double_limit _ _ _ n.1 (refusal (goal.at.scan-requires c).After-ask_double-asked) (number (goal.at.scan-requires c).After-ask_double-asked), n.0)
+    let a = rw (c.number.ensures, to_z-of_z w32 c.args.p c.ranges.p) at c.in_ok-asked.ensures.refusal in
+    let b = rw (c.number.ensures, to_z-of_z w32 c.args.p c.ranges.p) at c.in_ok-asked.ensures.number in
+    let q : c.from-q.result < 2098 = double_limit c.args.p c.from-q.result a (c.from-q.ensures ∙ b) in
+    let l = c.in_ok-ask_lengths.ensures in
+    λ i h. search rules
 
 pub returns : goal.returns
 returns c =
-    let n = none_refused _ _ _ _ _ c.ask_lengths.ensures c.first_no-refusal.ensures c.if-refusal-ne0.false in
-    c.scan.ensures ∙ in_range 52 11 _ _ _ _ n.0 _ _ (refusal (goal.at.returns c).After-ask_double-asked) n.1 (number (goal.at.returns c).After-ask_double-asked)
+    let a = rw (c.number.ensures, to_z-of_z w32 c.args.p c.ranges.p) at c.in_ok-asked.ensures.refusal in
+    let b = rw (c.number.ensures, to_z-of_z w32 c.args.p c.ranges.p) at c.in_ok-asked.ensures.number in
+    let l = c.in_ok-ask_lengths.ensures in
+    let s = FirstTrue-weaker (Says 52 11 c.args.mark c.from-q.result c.args.raw.now c.args.trimmed.now) c.scan.ensures (λ i b h k. search rules) in
+    ap accepted (scanned 52 11 c.args.mark c.from-q.result c.args.raw.now c.args.trimmed.now l c.scan.result s)
+    ∙ in_range 52 11 c.args.mark c.args.p c.args.raw.now c.args.trimmed.now l c.from-q.result a (c.from-q.ensures ∙ b)

@@ -4,22 +4,21 @@ use Rattle.codes.specs.Cut.{cut_of}
 use Rattle.codes.proofs.Leaf.{make, reading_pos, reading_neg}
 use Rattle.codes.proofs.cut_reading.Goals as goal
 
-pub cut_size-c-requires : goal.cut_size-c-requires
+pub cut_size-size-requires : goal.cut_size-size-requires
 unfolding magnitude
-cut_size-c-requires c =
-    let e : c.shift_of-x.result ≡ spacing_exp 23 (magnitude 23 8 c.args.w) = c.shift_of-x.ensures in
-    record { a_bound = c.twice_sig-a.ensures.small; x_bound = omega (arith, e, c.requires) }
+cut_size-size-requires c =
+    let e : c.spacing_of-spacing.result ≡ spacing_exp 23 (magnitude 23 8 c.args.reading) = c.spacing_of-spacing.ensures in
+    record { a_bound = c.twice_sig.ensures.small; x_bound = omega (arith, e, c.requires) }
 
-pub returns-then-w-lt2147483648 : goal.returns-then-w-lt2147483648
+pub returns-then-reading-lt2147483648 : goal.returns-then-reading-lt2147483648
 unfolding magnitude
-returns-then-w-lt2147483648 c =
+returns-then-reading-lt2147483648 c =
     let s = c.args in
-    c.cut_size-c.ensures ∙ ap (λ (t : ℕ). cut_of 0 t (2 ^ s.s)) c.twice_sig-a.ensures.size ∙ reading_pos s.w s.s (omega arith)
+    c.cut_size-size.ensures ∙ ap (λ (t : ℕ). cut_of 0 t (2 ^ s.unit)) c.twice_sig.ensures.size ∙ reading_pos s.reading s.unit (omega arith)
 
-pub returns : goal.returns
+pub returns-else-reading-lt2147483648 : goal.returns-else-reading-lt2147483648
 unfolding make magnitude
-returns c =
+returns-else-reading-lt2147483648 c =
     let s = c.args in
-    let e = c.cut_size-c.ensures ∙ ap (λ (t : ℕ). cut_of 0 t (2 ^ s.s)) c.twice_sig-a.ensures.size in
-    reading_neg s.w s.s c.wrapping_sub_u64-z.result c.wrapping_sub_u64-t.result c.cut_size-c.result (omega arith) (omega arith)
-    (omega arith) (omega arith) e c.wrapping_sub_u64-t.ensures.value c.wrapping_sub_u64-z.ensures.value
+    let e = c.cut_size-size.ensures ∙ ap (λ (t : ℕ). cut_of 0 t (2 ^ s.unit)) c.twice_sig.ensures.size in
+    reading_neg s.reading s.unit c.wrapping_neg.result c.cut_size-size.result (omega arith) (omega arith) (omega arith) e c.wrapping_neg.ensures

@@ -1,13 +1,7 @@
-use Prim.Native.Nat.{◌-◌}
-use mathlib.Core.Path.{◌≡◌}
-use lib.ListN.{length}
 use Rattle.parts.proofs.Fills.{Filled}
 use Rattle.decoding.specs.Floats.{decoded}
 use Rattle.decoding.proofs.unpack_layer.Given as goal
 
 -- `unpack_layer` meets its contract: the doubles before place i are written.
 abbrev pub invariant-loop-i : goal.invariant-loop-i
-invariant-loop-i l = (length l.readings ≡ length l.codes) × Filled (decoded l.l l.mark) l.codes l.readings l.i
-
-abbrev pub decreases-loop-i : goal.decreases-loop-i
-decreases-loop-i l = length l.codes - l.i
+invariant-loop-i l = Filled (decoded l.l l.mark) l.codes l.readings l.i

@@ -15,4 +15,4 @@ pub returns : goal.returns
 returns c =
     let p = c.requires in
     let tail = double_some _ _ _ c.decade_place-r.ensures.1 p.2 p.0 p.1 in
-    rw c.difference.ensures (tail _ _ _ (sub-add_cancel c.if-r-d.false) c.step_exponent-j.ensures.power c.difference-c.ensures)
+    rw c.saturating_sub.ensures (tail _ _ _ (sub-add_cancel c.if-r-d.false) c.step_exponent-j.ensures.power c.saturating_sub-c.ensures)

@@ -1,26 +1,18 @@
-use native.Mathlib.Omega.{arith}
-use borrow.Author.Tests.{le-leb, lt-leb}
-use Rattle.fields_in.proofs.Walk.{run_start, run_ended, run_stopped, run_turn, run_done}
+use Rattle.std.proofs.Common.{rules, tests, arith, ◌≡◌, ◌-◌, ◌∙◌, length, take, drop, length-drop}
+use Rattle.std.proofs.lemmas.Iterator.{YieldsList-from_slice, YieldsList-from_take}
+use Rattle.std.proofs.lemmas.Iterator.Consumers.{count_from_yields_List}
+use Rattle.std.proofs.lemmas.Iterator.Search.{YieldsList-from_take_while}
+use Rattle.std.proofs.lemmas.List.{take_all}
 use Rattle.form.specs.Form.{is_digit}
+use Rattle.fields_in.proofs.Walk.{run_taken}
 use Rattle.fields_in.proofs.digits_at.Goals as goal
 
-pub loop-i-init : goal.loop-i-init
-loop-i-init c = run_start is_digit 4 _ _ c.requires
-
-pub returns-then-s-at : goal.returns-then-s-at
-returns-then-s-at c = run_ended is_digit 4 _ _ _ c.loop-i.invariant c.loop-i-test.true c.if-s-at.true
-
-pub returns-then-s-at-lt48 : goal.returns-then-s-at-lt48
-returns-then-s-at-lt48 c =
-    run_stopped is_digit 4 _ _ _ c.loop-i.invariant c.loop-i-test.true (omega (arith, c.requires)) (simp (lt-leb 48 _ c.if-s-at-lt48.true))
-
-pub returns-then-s-at-gt57 : goal.returns-then-s-at-gt57
-returns-then-s-at-gt57 c =
-    run_stopped is_digit 4 _ _ _ c.loop-i.invariant c.loop-i-test.true (omega (arith, c.requires)) (simp (le-leb 48 _ c.if-s-at-lt48.false, lt-leb _ 57 c.if-s-at-gt57.true))
-
-pub loop-i-preserved : goal.loop-i-preserved
-loop-i-preserved c =
-    run_turn is_digit 4 _ _ _ c.loop-i.invariant c.loop-i-test.true (omega (arith, c.requires)) (simp (le-leb 48 _ c.if-s-at-lt48.false, le-leb _ 57 c.if-s-at-gt57.false))
-
 pub returns : goal.returns
-returns c = run_done is_digit 4 _ _ _ c.loop-i.invariant c.loop-i-test.false
+returns c =
+    let s = c.args.s.now in
+    let rest = drop c.args.at s in
+    let whole : take (length s - c.args.at) rest ≡ rest = take_all _ _ (omega (arith, length-drop c.args.at s)) in
+    let source : c.take_while.result.iter.iter.rest.now ≡ rest = rw c.take_while.ensures.source (rw c.take.ensures.source (rw c.iter.ensures.rest whole)) in
+    let count : c.take_while.result.iter.n ≡ 4 = simp (c.take_while.ensures.source, c.take.ensures.count) in
+    count_from_yields_List c.take_while.result _ c.count.ensures.ran (YieldsList-from_take_while _ is_digit (YieldsList-from_take 4 (YieldsList-from_slice rest source) count) c.take_while.ensures.closure c.take_while.ensures.done (λ x b q k. search (rules, tests)))
+    ∙ run_taken is_digit 4 rest

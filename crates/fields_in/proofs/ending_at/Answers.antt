@@ -1,26 +1,13 @@
-use Prim.Native.Nat.{ℕ}
-use mathlib.Core.Path.{ap, ◌∙◌}
-use mathlib.Core.List.{[], ◌∷◌}
-use lib.ListN.{drop}
-use Rattle.fields_in.proofs.Walk.{skip_ended, skip_yes, skip_no, ending_more}
+use Rattle.std.proofs.Common.{ap, sym, ◌∙◌, ℕ, [], ◌∷◌, drop}
 use Rattle.form.specs.Parse.{skip, ending}
+use Rattle.fields_in.proofs.Walk.{byte_is, skip_byte, ending_more}
 use Rattle.fields_in.proofs.ending_at.Goals as goal
-
-pub returns-then-s-at : goal.returns-then-s-at
-returns-then-s-at c = skip_ended _ _ _ c.if-s-at.true
-
-pub returns-then-s-at-eq10 : goal.returns-then-s-at-eq10
-returns-then-s-at-eq10 c =
-    ap (λ (n : ℕ). skip (ending n ∷ []) (drop c.args.at c.args.s.now)) c.if-left-eq0.true ∙ skip_yes _ _ 10 c.if-s-at.false c.if-s-at-eq10.true
-
-pub returns-then-left-eq0 : goal.returns-then-left-eq0
-returns-then-left-eq0 c =
-    ap (λ (n : ℕ). skip (ending n ∷ []) (drop c.args.at c.args.s.now)) c.if-left-eq0.true ∙ skip_no _ _ 10 c.if-s-at.false c.if-s-at-eq10.false
-
-pub returns-then-s-at-eq44 : goal.returns-then-s-at-eq44
-returns-then-s-at-eq44 c =
-    ap (λ (n : ℕ). skip (n ∷ []) (drop c.args.at c.args.s.now)) (ending_more _ c.if-left-eq0.false) ∙ skip_yes _ _ 44 c.if-s-at.false c.if-s-at-eq44.true
+use Rattle.fields_in.proofs.ending_at.Goals.{then-left-eq0, else-left-eq0}
 
 pub returns : goal.returns
 returns c =
-    ap (λ (n : ℕ). skip (n ∷ []) (drop c.args.at c.args.s.now)) (ending_more _ c.if-left-eq0.false) ∙ skip_no _ _ 44 c.if-s-at.false c.if-s-at-eq44.false
+    let skipped = skip_byte c.args.s.now c.args.at _ _ (byte_is c.args.s.now c.args.at _ c.get.ensures.lookup _ _ c.eq.ensures) in
+    elim c.if-left-eq0.branch [
+      | then-left-eq0 w ↦ ap (λ (n : ℕ). skip (n ∷ []) (drop c.args.at c.args.s.now)) (ap ending w.if-left-eq0.true ∙ sym w.ending-is) ∙ skipped
+      | else-left-eq0 w ↦ ap (λ (n : ℕ). skip (n ∷ []) (drop c.args.at c.args.s.now)) (ending_more _ w.if-left-eq0.false ∙ sym w.ending-is) ∙ skipped
+    ]

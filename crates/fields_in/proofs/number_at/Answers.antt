@@ -1,39 +1,24 @@
-use native.Mathlib.Omega.{arith}
-use mathlib.Core.Path.{sym, ◌∙◌}
-use Rattle.fields_in.proofs.Walk.{number_start, number_none, number_room, number_turn, number_done, number_small}
+use Rattle.std.proofs.Common.{rules, arith, sym, ◌∙◌, ◌<◌}
+use Rattle.fields_in.proofs.Walk.{number_start, number_none, number_length, number_turn, number_done}
 use Rattle.fields_in.proofs.number_at.Goals as goal
 
-pub returns-then-n-eq0 : goal.returns-then-n-eq0
-returns-then-n-eq0 c =
-    let a = c.args in
-    record { s_value = number_none a.s.now a.at (sym c.digits_at-n.ensures ∙ c.if-n-eq0.true); number_small = tt }
+pub returns-then-n-eq0-clause-s_value : goal.returns-then-n-eq0-clause-s_value
+returns-then-n-eq0-clause-s_value c = number_none c.args.s.now c.args.at (sym c.digits_at-n.ensures ∙ c.if-n-eq0.true)
 
-pub loop-i-init : goal.loop-i-init
-loop-i-init c = number_start _ _ _ c.requires c.digits_at-n.ensures
+pub overflow_add-b-items : goal.overflow_add-b-items
+overflow_add-b-items c = let t = number_start _ _ _ c.requires c.digits_at-n.ensures in let w = t.within in omega arith
 
-pub overflow_mul-v : goal.overflow_mul-v
-overflow_mul-v c = omega (arith, number_room _ _ _ _ _ c.loop-i.invariant c.loop-i-test.true)
+pub slice_bounds-b-items-end : goal.slice_bounds-b-items-end
+slice_bounds-b-items-end c = let t = number_start _ _ _ c.requires c.digits_at-n.ensures in let w = t.within in search rules
 
-pub bounds-s-at : goal.bounds-s-at
-bounds-s-at c =
-    let w = c.loop-i.invariant.within in
-    omega arith
+pub loop-b-init : goal.loop-b-init
+loop-b-init c = number_start _ _ _ c.requires c.digits_at-n.ensures
 
-pub overflow_sub-v : goal.overflow_sub-v
-overflow_sub-v c = (c.loop-i.invariant.digits _ c.loop-i-test.true).0
+pub loop-b-preserved : goal.loop-b-preserved
+loop-b-preserved c =
+    let t = c.loop-b.invariant in
+    let i : c.loop-b.b-index < c.digits_at-n.result = omega (arith, number_length _ _ _ _ _ t) in
+    number_turn _ _ _ _ _ t i _ c.from.ensures
 
-pub overflow_cast-v : goal.overflow_cast-v
-overflow_cast-v c = omega (arith, (c.loop-i.invariant.digits _ c.loop-i-test.true).1)
-
-pub overflow_add-v-in-loop-i : goal.overflow_add-v-in-loop-i
-overflow_add-v-in-loop-i c =
-    let d = (c.loop-i.invariant.digits _ c.loop-i-test.true).1 in
-    omega (arith, number_room _ _ _ _ _ c.loop-i.invariant c.loop-i-test.true)
-
-pub loop-i-preserved : goal.loop-i-preserved
-loop-i-preserved c =
-    number_turn _ _ _ _ _ c.loop-i.invariant c.loop-i-test.true
-
-pub returns : goal.returns
-returns c =
-    record { s_value = number_done _ _ _ _ _ c.loop-i.invariant c.loop-i-test.false c.if-n-eq0.false; number_small = number_small _ _ _ _ _ c.loop-i.invariant }
+pub returns-clause-s_value : goal.returns-clause-s_value
+returns-clause-s_value c = number_done _ _ _ _ _ c.loop-b.invariant (omega (arith, number_length _ _ _ _ _ c.loop-b.invariant)) c.if-n-eq0.false

@@ -1,18 +1,19 @@
 -- Turn after turn, by the laws of `Turns`.
-use borrow.Author.Rules.{rules}
-use native.Mathlib.Omega.{arith}
-use Rattle.in_turn.proofs.Turns.{turn_start, turn_next, turn_long, turn_end}
+use Rattle.std.proofs.Common.{rules, inl, inr, w32}
+use Rattle.std.specs.Iterator.Adapters.{zip_first, zip_second}
+use Rattle.std.specs.Slice.Iter.{iter_rest}
+use mir.Val.{SFits}
+use Rattle.in_turn.proofs.Turns.{turn_next, turn_end}
 use Rattle.in_turn.proofs.run_singles.Goals as goal
 
-pub loop-i-init : goal.loop-i-init
-loop-i-init c = turn_start 23 8 _ _ _ _
-
-pub loop-i-preserved : goal.loop-i-preserved
-loop-i-preserved c =
-    turn_next 23 8 _ _ _ _ _ _ _ (omega (arith, c.calls-n.ensures)) c.trim_singles.ensures.content (search rules) c.loop-i.invariant
-
-pub shape_of-readings : goal.shape_of-readings
-shape_of-readings c = turn_long 23 8 _ _ _ _ _ _ c.loop-i.invariant
+pub loop-method-preserved : goal.loop-method-preserved
+loop-method-preserved c =
+    let k = c.in-Some.ensures.steps in
+    let f : SFits w32 c.in-Some.setting.now = search rules in
+    turn_next 23 8 c.args.mark c.loop-method.readings k.0 k.1 c.trim_singles.ensures.content f c.loop-method.invariant
 
 pub returns : goal.returns
-returns c = turn_end 23 8 _ _ _ _ _ _ (omega (arith, c.calls-n.ensures)) c.loop-i.invariant
+returns c =
+    let it = c.loop-method.method-iterator in
+    turn_end 23 8 c.args.mark c.loop-method.readings (iter_rest (zip_first it)) (iter_rest (zip_second it))
+    (elim c.in-None.ensures.steps [ inl p ↦ inl p.1.0 | inr p ↦ inr p.1.0 ]) c.loop-method.invariant

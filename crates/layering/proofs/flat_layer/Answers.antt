@@ -2,9 +2,6 @@ use mathlib.Core.Path.{◌∙◌}
 use Rattle.layering.proofs.One.{one_reference, one_stored, one_codes}
 use Rattle.layering.proofs.flat_layer.Goals as goal
 
-pub missing_of-missing-requires : goal.missing_of-missing-requires
-missing_of-missing-requires c = c.requires.width.high
-
 pub returns : goal.returns
 returns c =
     let m = c.missing_of-missing.ensures in

@@ -1,14 +1,16 @@
-use Rattle.layering.proofs.Cases.{nothing_one, flat_one, spread_two}
+use mathlib.Core.Path.{refl, sym}
+use lib.Ieee.{of_bits, to_bits}
+use Rattle.summary.specs.Summaries.{summary_of}
 use Rattle.layering.proofs.pack_layer.Goals as goal
 
-pub flat_layer-requires : goal.flat_layer-requires
-flat_layer-requires c =
-    record { width = c.requires.width; readings_len = c.requires.readings_len; one = nothing_one _ _ c.in-Nothing.is c.summary_of-s.ensures }
+pub flat_layer-requires-clause-one : goal.flat_layer-requires-clause-one
+unfolding summary_of of_bits to_bits
+flat_layer-requires-clause-one c = rw (← c.in-Nothing.ensures) refl
 
-pub flat_layer-requires-in-Flat : goal.flat_layer-requires-in-Flat
-flat_layer-requires-in-Flat c =
-    record { width = c.requires.width; readings_len = c.requires.readings_len; one = flat_one _ _ _ c.in-Flat.is c.summary_of-s.ensures }
+pub flat_layer-requires-in-Flat-clause-one : goal.flat_layer-requires-in-Flat-clause-one
+unfolding summary_of
+flat_layer-requires-in-Flat-clause-one c = rw (← c.in-Flat.ensures) refl
 
-pub spread_layer-requires : goal.spread_layer-requires
-spread_layer-requires c =
-    record { width = c.requires.width; readings_len = c.requires.readings_len; packable = c.requires.packable; readings_value = spread_two _ _ _ _ c.in-Spread.is c.summary_of-s.ensures }
+pub spread_layer-requires-clause-readings_value : goal.spread_layer-requires-clause-readings_value
+unfolding summary_of
+spread_layer-requires-clause-readings_value c = sym c.in-Spread.ensures

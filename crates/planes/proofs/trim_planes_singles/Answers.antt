@@ -1,47 +1,54 @@
 -- Refused or accepted, by the laws of `Calls`.
-use mathlib.Core.Path.{sym, ap, ◌∙◌}
-use Prim.Native.Nat.{◌*◌}
-use borrow.Author.Tests.{eqb-true}
-use lib.IntN.{ℤ}
-use lib.ListN.{length}
-use mir.Facts.{to_z-of_z}
+use Rattle.std.proofs.Common.{◌∙◌, ap, ℤ, w32, refl}
+use Rattle.std.proofs.lemmas.Int.{to_z-of_z}
+use Rattle.std.proofs.lemmas.Result.{err_from_is_err_and}
+use Rattle.meaning.specs.Questions.{accepted}
 use Rattle.meaning.specs.Planes.{readings}
-use Rattle.asking.specs.Asked.{refusal_of, asked_number}
+use Rattle.asking.specs.Asked.{refusal_of}
 use Rattle.loops.specs.Tallies.{totals_of}
-use Rattle.trim.specs.Answers.{answer_of}
 use Rattle.trim.proofs.Calls.{single_fitting, fewer_sums}
 use Rattle.planes.proofs.Calls.{refused_early, refused_late, accepted_planes}
 use Rattle.planes.proofs.trim_planes_singles.Goals as goal
 
-pub returns-then-asked-ne0 : goal.returns-then-asked-ne0
-unfolding answer_of
-returns-then-asked-ne0 c =
-    let a = c.ask_single-asked.result in
-    let it = refused_early 4 23 8 c.args.method c.args.setting c.args.mark c.args.n c.args.planes.now a.refusal c.if-asked-ne0.true (c.ask_single-asked.ensures.refusal ∙ ap (λ (z : ℤ). refusal_of 23 8 c.args.method z) (to_z-of_z c.ranges.setting)) in
-    record { answer = it.0; content = it.1 }
+pub returns-in_err-asked : goal.returns-in_err-asked
+returns-in_err-asked c =
+    let p = err_from_is_err_and c.from_residual.result c.from_residual.ensures.1 in
+    let a = c.in_err-asked.ensures in
+    let e = a.refusal ∙ ap (λ (z : ℤ). refusal_of 23 8 c.args.method z) (to_z-of_z w32 c.args.setting c.ranges.setting) in
+    let it = refused_early 4 23 8 c.args.method c.args.setting c.args.mark c.args.n c.args.planes.now c.in_err-asked.field-0.0 e in
+    rw (p.1, p.2) record { answer = it.0; content = it.1 }
 
-pub returns-then-not-planes_fit : goal.returns-then-not-planes_fit
-unfolding answer_of
-returns-then-not-planes_fit c =
-    let a = c.ask_single-asked.result in
-    let it = refused_late 4 23 8 c.args.method c.args.setting c.args.mark c.args.n c.args.planes.now a.refusal a.number (c.ask_single-asked.ensures.refusal ∙ ap (λ (z : ℤ). refusal_of 23 8 c.args.method z) (to_z-of_z c.ranges.setting)) c.if-asked-ne0.false (c.ask_single-asked.ensures.number ∙ ap (λ (z : ℤ). asked_number 23 8 c.args.method z) (to_z-of_z c.ranges.setting)) (sym c.planes_fit.ensures ∙ c.if-not-planes_fit.true) in
-    record { answer = it.0; content = it.1 }
+pub returns-in_err-ask_planes : goal.returns-in_err-ask_planes
+returns-in_err-ask_planes c =
+    let p = err_from_is_err_and c.from_residual-in_err-ask_planes.result c.from_residual-in_err-ask_planes.ensures.1 in
+    let a = c.in_ok-asked.ensures in
+    let e = simp (to_z-of_z w32 c.args.setting c.ranges.setting) at a.refusal in
+    let m = simp (to_z-of_z w32 c.args.setting c.ranges.setting) at a.number in
+    let it = refused_late 4 23 8 c.args.method c.args.setting c.args.mark c.args.n c.args.planes.now c.args.method c.in_ok-asked.asked.number refl e m c.in_err-ask_planes.ensures.1 in
+    rw (p.1, p.2, c.in_err-ask_planes.ensures.0) record { answer = it.0; content = it.1 }
 
 pub method_singles-sums-requires : goal.method_singles-sums-requires
 method_singles-sums-requires c =
-    let a = c.ask_single-asked.result in
-    (single_fitting c.args.method c.args.setting a.refusal a.number (c.ask_single-asked.ensures.refusal ∙ ap (λ (z : ℤ). refusal_of 23 8 c.args.method z) (to_z-of_z c.ranges.setting)) c.if-asked-ne0.false (c.ask_single-asked.ensures.number ∙ ap (λ (z : ℤ). asked_number 23 8 c.args.method z) (to_z-of_z c.ranges.setting)), eqb-true (length c.args.planes.now) (c.args.n * 4) (sym c.planes_fit.ensures ∙ c.if-not-planes_fit.false))
+    let a = c.in_ok-asked.ensures in
+    let e = simp (to_z-of_z w32 c.args.setting c.ranges.setting) at a.refusal in
+    let m = simp (to_z-of_z w32 c.args.setting c.ranges.setting) at a.number in
+    (single_fitting c.args.method c.args.setting c.number.result c.in_ok-asked.asked.number (c.number.ensures ∙ a.method) e m, c.in_ok-ask_planes.ensures)
 
 pub counted-requires : goal.counted-requires
 counted-requires c =
-    let a = c.ask_single-asked.result in
-    let m = c.method_singles-sums in
-    fewer_sums 23 8 c.args.method c.args.setting c.args.mark a.refusal a.number (c.ask_single-asked.ensures.refusal ∙ ap (λ (z : ℤ). refusal_of 23 8 c.args.method z) (to_z-of_z c.ranges.setting)) c.if-asked-ne0.false (c.ask_single-asked.ensures.number ∙ ap (λ (z : ℤ). asked_number 23 8 c.args.method z) (to_z-of_z c.ranges.setting)) (readings 4 c.args.n c.args.planes.now) (totals_of m.result) m.ensures.sums
+    let a = c.in_ok-asked.ensures in
+    let e = simp (to_z-of_z w32 c.args.setting c.ranges.setting) at a.refusal in
+    let m = simp (to_z-of_z w32 c.args.setting c.ranges.setting) at a.number in
+    let sums = c.method_singles-sums in
+    fewer_sums 23 8 c.args.method c.args.setting c.number.result c.in_ok-asked.asked.number (c.number.ensures ∙ a.method) e m
+    c.args.mark (readings 4 c.args.n c.args.planes.now) (totals_of sums.result) sums.ensures.sums
 
 pub returns : goal.returns
-unfolding answer_of
 returns c =
-    let a = c.ask_single-asked.result in
-    let m = c.method_singles-sums in
-    let call = accepted_planes 4 23 8 c.args.method c.args.setting c.args.mark c.args.n c.args.planes.now a.refusal a.number (c.ask_single-asked.ensures.refusal ∙ ap (λ (z : ℤ). refusal_of 23 8 c.args.method z) (to_z-of_z c.ranges.setting)) c.if-asked-ne0.false (c.ask_single-asked.ensures.number ∙ ap (λ (z : ℤ). asked_number 23 8 c.args.method z) (to_z-of_z c.ranges.setting)) (sym c.planes_fit.ensures ∙ c.if-not-planes_fit.false) (totals_of m.result) m.ensures.sums m.new.planes m.ensures.content in
-    record { answer = c.counted.ensures ∙ call.0; content = call.1 }
+    let a = c.in_ok-asked.ensures in
+    let e = simp (to_z-of_z w32 c.args.setting c.ranges.setting) at a.refusal in
+    let m = simp (to_z-of_z w32 c.args.setting c.ranges.setting) at a.number in
+    let sums = c.method_singles-sums in
+    let call = accepted_planes 4 23 8 c.args.method c.args.setting c.args.mark c.args.n c.args.planes.now c.number.result c.in_ok-asked.asked.number (c.number.ensures ∙ a.method) e m
+    c.in_ok-ask_planes.ensures (totals_of sums.result) sums.ensures.sums sums.new.planes sums.ensures.content in
+    record { answer = ap accepted c.counted.ensures ∙ call.0; content = call.1 }

@@ -3,24 +3,12 @@ use Prim.Native.Nat.{◌+◌}
 use Rattle.quick.proofs.Finest.{all_coarse, one_coarse}
 use Rattle.quick.proofs.codes_of.Goals as goal
 
-pub codes_of-requires : goal.codes_of-requires
-codes_of-requires c =
-    let p = c.requires in
-    record { r_bound = p.r_bound; e_bound = p.e_bound; r_bound_2 = p.r_bound_2; all_ready = p.all_ready; readings_len = p.readings_len; width_bound = p.width_bound }
+pub quick_codes-requires-clause-coarse : goal.quick_codes-requires-clause-coarse
+quick_codes-requires-clause-coarse c =
+    let l = c.args.layer in
+    one_coarse (l.exponent + l.width) l.reference (omega (arith, c.limit_of.ensures, c.or_top-reference.ensures, c.min-finest.ensures, c.if-finest-limit_of.false))
 
-pub quick_codes-requires : goal.quick_codes-requires
-quick_codes-requires c =
-    let s = c.args in
-    let p = c.requires in
-    record {
-      r_bound = p.r_bound;
-      e_bound = p.e_bound;
-      coarse = one_coarse (s.e + s.width) s.r (omega (arith, c.limit_of-limit.ensures, c.choose-low.ensures, c.smaller-least.ensures, c.if-least-limit.false));
-      all_ready = p.all_ready;
-      all_held = p.all_held;
-      width_bound = p.width_bound;
-      all_coarse =
-          all_coarse s.mark (s.e + s.width) s.readings.now
-          (omega (arith, c.limit_of-limit.ensures, c.finest_magnitude-fine.ensures, c.smaller-least.ensures, c.if-least-limit.false));
-      readings_len = p.readings_len;
-    }
+pub quick_codes-requires-clause-all_coarse : goal.quick_codes-requires-clause-all_coarse
+quick_codes-requires-clause-all_coarse c =
+    let l = c.args.layer in
+    all_coarse c.args.mark (l.exponent + l.width) c.args.readings.now (omega (arith, c.limit_of.ensures, c.finest_magnitude.ensures, c.min-finest.ensures, c.if-finest-limit_of.false))

@@ -1,7 +1,5 @@
-use borrow.Author.Rules.{rules}
-use mathlib.Core.Path.{sym, ap₂, ◌∙◌}
-use Rattle.summary.specs.Keys.{between}
 use Rattle.summary.proofs.Made.{made, both_keys}
+use Rattle.std.proofs.Common.{rules}
 use Rattle.summary.proofs.summary_of.Goals as goal
 
 pub between_ends-requires : goal.between_ends-requires
@@ -12,4 +10,4 @@ between_ends-requires c =
 pub returns : goal.returns
 returns c =
     let m = made c.args.mark c.args.readings.now c.requires (λ i h. search rules) in
-    c.between_ends.ensures ∙ ap₂ between c.ends_of.ensures.low c.ends_of.ensures.high ∙ sym m.is
+    cc

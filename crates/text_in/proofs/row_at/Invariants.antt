@@ -1,9 +1,5 @@
-use Prim.Native.Nat.{◌-◌}
 use Rattle.text_in.proofs.RowLaws.{RowTurn}
 use Rattle.text_in.proofs.row_at.Given as goal
 
 abbrev pub invariant-loop-j : goal.invariant-loop-j
-invariant-loop-j l = RowTurn l.s l.at l.n l.row l.initial.work l.work l.j l.p l.q
-
-abbrev pub decreases-loop-j : goal.decreases-loop-j
-decreases-loop-j l = l.n - l.j
+invariant-loop-j l = RowTurn l.s l.at l.n l.row l.initial.work l.work l.j l.p

@@ -1,4 +1,3 @@
-use borrow.Author.Rules.{rules}
 use Rattle.text_out.proofs.FieldLaws.{field_room, field_done}
 use Rattle.text_out.proofs.put_field.Goals as goal
 
@@ -7,14 +6,7 @@ bounds-out-p c =
     let a = c.requires in
     (field_room _ _ _ 0 _ _ a.0 a.1 c.put_number-p.ensures.value c.put_number-p.ensures.out_after).0
 
-pub overflow_add-result : goal.overflow_add-result
-overflow_add-result c =
+pub returns-clause-out_after : goal.returns-clause-out_after
+returns-clause-out_after c =
     let a = c.requires in
-    let r = (field_room _ _ _ 0 _ _ a.0 a.1 c.put_number-p.ensures.value c.put_number-p.ensures.out_after).1 in
-    search rules
-
-pub returns : goal.returns
-returns c =
-    let a = c.requires in
-    let it = field_done _ _ _ c.args.left _ _ a.0 a.1 c.put_number-p.ensures.value c.put_number-p.ensures.out_after _ c.ending_byte-c.ensures in
-    record { value = it.0; out_after = it.1 }
+    (field_done _ _ _ c.args.left _ _ a.0 a.1 c.put_number-p.ensures.value c.put_number-p.ensures.out_after _ c.ending_byte.ensures).1

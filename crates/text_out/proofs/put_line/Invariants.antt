@@ -1,9 +1,5 @@
-use Prim.Native.Nat.{◌-◌}
 use Rattle.text_out.proofs.PutLaws.{LineTurn}
 use Rattle.text_out.proofs.put_line.Given as goal
 
 abbrev pub invariant-loop-j : goal.invariant-loop-j
-invariant-loop-j l = LineTurn l.initial.out l.at l.n l.i l.work l.out l.j l.p l.q
-
-abbrev pub decreases-loop-j : goal.decreases-loop-j
-decreases-loop-j l = l.n - l.j
+invariant-loop-j l = LineTurn l.initial.out l.at l.n l.i l.work l.out l.j

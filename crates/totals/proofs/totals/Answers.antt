@@ -12,7 +12,6 @@ use Rattle.meaning.specs.Questions.{accepted, length_in_range}
 use Rattle.meaning.specs.Totals.{totals_of, in_order_sum, if_present}
 use Rattle.meaning.proofs.Accepted.{and_second}
 use Rattle.meaning.proofs.Totals.{joined}
-use Rattle.totals.specs.Answers.{answer_of}
 use Rattle.totals.specs.Gathered.{Gathered, joined_of}
 use Rattle.totals.specs.declared.Lanes.{Lanes}
 use Rattle.totals.proofs.Gathering.{summed_most, sum_most}
@@ -31,11 +30,9 @@ small : (m c : ℕ) → c < 65536 → if_present m c ≤ 65535
 small m c h = omega (arith, summed_most m c)
 
 pub returns-then-not-length_in_range : goal.returns-then-not-length_in_range
-unfolding answer_of
 returns-then-not-length_in_range c = three _ _ (sym c.length_in_range.ensures ∙ c.if-not-length_in_range.true)
 
 pub returns-then-not-width_in_range : goal.returns-then-not-width_in_range
-unfolding answer_of
 returns-then-not-width_in_range c =
     eleven _ _ (sym c.length_in_range.ensures ∙ c.if-not-length_in_range.false) (sym c.width_in_range.ensures ∙ c.if-not-width_in_range.true)
 
@@ -45,7 +42,6 @@ missing_of-missing-requires c =
     leb-true w 16 (and_second (leb 2 w) (leb w 16) (sym c.width_in_range.ensures ∙ c.if-not-width_in_range.false))
 
 pub returns-then-missing-bits_of : goal.returns-then-missing-bits_of
-unfolding answer_of
 returns-then-missing-bits_of c =
     twelve _ _ (sym c.length_in_range.ensures ∙ c.if-not-length_in_range.false) (sym c.width_in_range.ensures ∙ c.if-not-width_in_range.false) _ c.bits_of.ensures
     (omega (arith, c.if-missing-bits_of.true, c.missing_of-missing.ensures))
@@ -67,7 +63,7 @@ join_lanes-sum-requires c =
     )
 
 pub returns : goal.returns
-unfolding answer_of totals_of
+unfolding totals_of
 returns c =
     let m = c.missing_of-missing.ensures in
     ap accepted (rw (c.count_present-count.ensures, c.join_lanes-sum.ensures, sum_is c.missing_of-missing.result c.args.codes.now c.gather-lanes.result c.gather-lanes.ensures, m) refl)

@@ -1,47 +1,45 @@
 -- Refused or accepted, by the laws of `Calls`.
-use mathlib.Core.Path.{ap, ◌∙◌}
-use lib.IntN.{ℤ}
-use mir.Facts.{to_z-of_z}
-use Rattle.asking.specs.Asked.{refusal_of, asked_number}
+use Rattle.std.proofs.Common.{◌∙◌, ap, ℤ, w32}
+use Rattle.std.proofs.lemmas.Int.{to_z-of_z}
+use Rattle.std.proofs.lemmas.Result.{err_from_is_err_and}
+use Rattle.meaning.specs.Questions.{accepted}
+use Rattle.asking.specs.Asked.{refusal_of}
+use Rattle.method.specs.Kinds.{number_of}
 use Rattle.loops.specs.Tallies.{totals_of}
-use Rattle.trim.specs.Answers.{answer_of}
+use Rattle.arrays.proofs.Outcomes.{of_numbers}
 use Rattle.trim.proofs.Calls.{refused_call, single_fitting, fewer_sums, accepted_call}
 use Rattle.trim.proofs.trim_singles.Goals as goal
 
-pub returns-then-asked-ne0 : goal.returns-then-asked-ne0
-unfolding answer_of
-returns-then-asked-ne0 c =
-    let a = c.ask_single-asked in
-    let it = refused_call 23 8 c.args.method c.args.setting c.args.mark c.args.readings.now a.result.refusal c.if-asked-ne0.true
-    (a.ensures.refusal ∙ ap (λ (z : ℤ). refusal_of 23 8 c.args.method z) (to_z-of_z c.ranges.setting)) in
-    record { answer = it.0; content = it.1 }
+pub returns-in_err-asked : goal.returns-in_err-asked
+returns-in_err-asked c =
+    let p = err_from_is_err_and c.from_residual.result c.from_residual.ensures.1 in
+    let a = c.in_err-asked.ensures in
+    let e = a.refusal ∙ ap (λ (z : ℤ). refusal_of 23 8 c.args.method z) (to_z-of_z w32 c.args.setting c.ranges.setting) in
+    let it = refused_call 23 8 c.args.method c.args.setting c.args.mark c.args.readings.now c.in_err-asked.field-0.0 e in
+    rw (p.1, p.2) record { answer = it.0; content = it.1 }
 
-pub method_singles-sums-requires : goal.method_singles-sums-requires
-method_singles-sums-requires c =
-    let a = c.ask_single-asked in
-    let none = c.if-asked-ne0.false in
-    single_fitting c.args.method c.args.setting a.result.refusal a.result.number
-    (a.ensures.refusal ∙ ap (λ (z : ℤ). refusal_of 23 8 c.args.method z) (to_z-of_z c.ranges.setting)) none
-    (a.ensures.number ∙ ap (λ (z : ℤ). asked_number 23 8 c.args.method z) (to_z-of_z c.ranges.setting))
+pub by_method-sums-requires : goal.by_method-sums-requires
+by_method-sums-requires c =
+    let a = c.in_ok-asked.ensures in
+    let e = simp (to_z-of_z w32 c.args.setting c.ranges.setting) at a.refusal in
+    let m = simp (to_z-of_z w32 c.args.setting c.ranges.setting) at a.number in
+    single_fitting c.args.method c.args.setting (number_of c.in_ok-asked.asked.method) c.in_ok-asked.asked.number a.method e m
 
 pub counted-requires : goal.counted-requires
 counted-requires c =
-    let a = c.ask_single-asked in
-    let none = c.if-asked-ne0.false in
-    let m = c.method_singles-sums in
-    fewer_sums 23 8 c.args.method c.args.setting c.args.mark a.result.refusal a.result.number
-    (a.ensures.refusal ∙ ap (λ (z : ℤ). refusal_of 23 8 c.args.method z) (to_z-of_z c.ranges.setting)) none
-    (a.ensures.number ∙ ap (λ (z : ℤ). asked_number 23 8 c.args.method z) (to_z-of_z c.ranges.setting))
-    c.args.readings.now (totals_of m.result) m.ensures.sums
+    let a = c.in_ok-asked.ensures in
+    let e = simp (to_z-of_z w32 c.args.setting c.ranges.setting) at a.refusal in
+    let m = simp (to_z-of_z w32 c.args.setting c.ranges.setting) at a.number in
+    let sums = c.by_method-sums in
+    fewer_sums 23 8 c.args.method c.args.setting (number_of c.in_ok-asked.asked.method) c.in_ok-asked.asked.number a.method e m
+    c.args.mark c.args.readings.now (totals_of sums.result) (of_numbers sums.ensures).0
 
 pub returns : goal.returns
 returns c =
-    let a = c.ask_single-asked in
-    let none = c.if-asked-ne0.false in
-    let m = c.method_singles-sums in
-    let call =
-    accepted_call 23 8 c.args.method c.args.setting c.args.mark a.result.refusal a.result.number
-    (a.ensures.refusal ∙ ap (λ (z : ℤ). refusal_of 23 8 c.args.method z) (to_z-of_z c.ranges.setting)) none
-    (a.ensures.number ∙ ap (λ (z : ℤ). asked_number 23 8 c.args.method z) (to_z-of_z c.ranges.setting))
-    c.args.readings.now (totals_of m.result) m.ensures.sums m.new.readings m.ensures.content in
-    record { answer = c.counted.ensures ∙ call.0; content = call.1 }
+    let a = c.in_ok-asked.ensures in
+    let e = simp (to_z-of_z w32 c.args.setting c.ranges.setting) at a.refusal in
+    let m = simp (to_z-of_z w32 c.args.setting c.ranges.setting) at a.number in
+    let sums = c.by_method-sums in
+    let call = accepted_call 23 8 c.args.method c.args.setting (number_of c.in_ok-asked.asked.method) c.in_ok-asked.asked.number a.method e m
+    c.args.mark c.args.readings.now (totals_of sums.result) (of_numbers sums.ensures).0 sums.new.readings (of_numbers sums.ensures).1 in
+    record { answer = ap accepted c.counted.ensures ∙ call.0; content = call.1 }

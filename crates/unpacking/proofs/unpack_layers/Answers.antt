@@ -26,8 +26,8 @@ offset_bounds-exponents-i c = omega (arith, exponent_there _ _ _ _ _ _ _ _ _ _ c
 pub bounds-exponents-i : goal.bounds-exponents-i
 bounds-exponents-i c = exponent_there _ _ _ _ _ _ _ _ _ _ c.loop-i.invariant (omega arith)
 
-pub step_of-step-requires : goal.step_of-step-requires
-step_of-step-requires c =
+pub step_of-requires : goal.step_of-requires
+step_of-requires c =
     let z = get_or c.args.exponents.now c.loop-i.i (pos 0) in
     let fit : SFits w32 z = search rules in
     ap exponent_in_range (to_z-of_z fit) ∙ exponent_step _ _ _ _ _ _ _ _ _ _ c.loop-i.invariant (omega arith)
@@ -38,21 +38,21 @@ offset_bounds-widths-i c = omega (arith, width_there _ _ _ _ _ _ _ _ _ _ c.loop-
 pub bounds-widths-i : goal.bounds-widths-i
 bounds-widths-i c = width_there _ _ _ _ _ _ _ _ _ _ c.loop-i.invariant (omega arith)
 
-pub missing_of-missing-requires : goal.missing_of-missing-requires
-missing_of-missing-requires c = width_few _ _ _ _ _ _ _ _ _ _ c.loop-i.invariant (omega arith)
-
-pub slice_bounds-part-end : goal.slice_bounds-part-end
-slice_bounds-part-end c = fits_in _ _ _ _ _ _ _ _ _ _ c.loop-i.invariant (omega arith)
+pub missing_of-requires : goal.missing_of-requires
+missing_of-requires c = width_few _ _ _ _ _ _ _ _ _ _ c.loop-i.invariant (omega arith)
 
 pub slice_bounds-unpack_layer-end : goal.slice_bounds-unpack_layer-end
-slice_bounds-unpack_layer-end c =
+slice_bounds-unpack_layer-end c = fits_in _ _ _ _ _ _ _ _ _ _ c.loop-i.invariant (omega arith)
+
+pub slice_bounds-unpack_layer-end-in-loop-i : goal.slice_bounds-unpack_layer-end-in-loop-i
+slice_bounds-unpack_layer-end-in-loop-i c =
     let inv = c.loop-i.invariant in
     omega (arith, fits_in _ _ _ _ _ _ _ _ _ _ inv (omega arith), as_many _ _ _ _ _ _ _ _ _ _ inv)
 
 pub unpack_layer-requires : goal.unpack_layer-requires
 unpack_layer-requires c =
     let inv = c.loop-i.invariant in (
-      record { reference = reference_finite _ _ _ _ _ _ _ _ _ _ inv (omega arith); step = ap finite_float c.step_of-step.ensures },
+      record { reference = reference_finite _ _ _ _ _ _ _ _ _ _ inv (omega arith); step = ap finite_float c.step_of.ensures },
       simp (length-take, length-drop) (omega (arith, fits_in _ _ _ _ _ _ _ _ _ _ inv (omega arith), as_many _ _ _ _ _ _ _ _ _ _ inv)),
     )
 
@@ -61,8 +61,8 @@ loop-i-preserved c =
     let fit : SFits w32 (get_or c.args.exponents.now c.loop-i.i (pos 0)) = search rules in
     let single : Singles c.args.references.now = λ k. search rules in
     let small : Below 65536 c.args.codes.now = λ k. search rules in
-    turn _ _ _ _ _ _ _ _ _ _ c.loop-i.invariant (omega arith) small _ (single _) refl (c.step_of-step.ensures ∙ ap two_to (to_z-of_z fit))
-    (ap (λ (n : ℕ). of_int binary64 (pos n)) c.missing_of-missing.ensures) _ c.unpack_layer.ensures
+    turn _ _ _ _ _ _ _ _ _ _ c.loop-i.invariant (omega arith) small _ (single _) refl (c.step_of.ensures ∙ ap two_to (to_z-of_z fit))
+    (ap (λ (n : ℕ). of_int binary64 (pos n)) c.missing_of.ensures) _ c.unpack_layer.ensures
 
 pub shape_of-readings : goal.shape_of-readings
 shape_of-readings c = c.loop-i.invariant.as_long
