@@ -1,5 +1,5 @@
-// The words that readings are stored in: of 32 bits for singles, of 64 for doubles. Whatever is done to an array, and to one reading (`one`), is written once, for every such word; only what
-// differs by width stands in the two impls. Internal: the calls open to users are those of `trim` and `planes`.
+// The words that readings are stored in: of 32 bits for singles, of 64 for doubles. Whatever is done to an array, and to one reading (`one`), is written once, for every such
+// word; only what differs by width stands in the two impls. Internal: the calls open to users are those of `trim` and `planes`.
 #![tactic(auto)]
 
 ghost use Rattle.std.specs.Prelude.{◌≡◌, ℕ, false, ◌+◌, ◌-◌, ◌/◌, ◌%◌, ◌^◌, ◌<◌, ◌≤◌, if◌then◌else◌, nat_eq, nat_lt};
@@ -9,7 +9,7 @@ ghost use Rattle.std.proofs.Common.{rules};
 ghost use Rattle.meaning.specs.Readings.{sign, magnitude, infinity};
 ghost use Rattle.meaning.specs.Methods.{round, absolute, digits, halfshaved, clips, new_magnitude};
 ghost use Rattle.powers.specs.Table.{powers};
-ghost use Rattle.reading.specs.Left.{unless_missing, left_from, settled_by, settled_tail, takes, over};
+ghost use Rattle.reading.specs.Left.{unless_missing, left_from, settled_by, settled_tail, takes};
 ghost use Rattle.reading.specs.Tails.{constants, TailOf};
 ghost use Rattle.reading.specs.Words.{settled_at, constants_at};
 ghost use Rattle.word.specs.Widths.{one_finite_single, one_finite_double};
@@ -19,8 +19,8 @@ use reading::{Tail, Trimmed};
 
 pub mod one;
 
-// What is left of a reading by its new pattern: the new pattern, or the reading itself where it is missing; the pattern that is left, which is the reading too where the former is the mark; and
-// what the reading loses by that, a difference that wraps around.
+// What is left of a reading by its new pattern: the new pattern, or the reading itself where it is missing; the pattern that is left, which is the reading too where the
+// former is the mark; and what the reading loses by that, a difference that wraps around.
 #[derive(Clone, Copy)]
 pub struct Left<W> {
     pub wanted: W,

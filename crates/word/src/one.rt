@@ -1,4 +1,5 @@
-// One reading: the pattern that is left of it and what it counts for, by each method. Everything is computed first and chosen last, so that a loop over these functions has no branch on the data.
+// One reading: the pattern that is left of it and what it counts for, by each method. Everything is computed first and chosen last, so that a loop over these functions has no
+// branch on the data.
 
 ghost use Rattle.std.specs.Prelude.{◌≡◌, ◌+◌, ◌-◌, ◌^◌, ◌<◌, ◌≤◌};
 ghost use Rattle.std.specs.Int.Bits.{bit_and};
