@@ -115,7 +115,7 @@ fn groom_rows<W: Word>(
     // By index: of what is written through `chunks_mut` a proof knows nothing afterwards.
     for r in 0..block.len().div_ceil(512) {
         let start = r * 512;
-        let n = loops::at_most(block.len() - start, 512);
+        let n = (block.len() - start).min(512);
         let bit = W::bit(r as u32);
         let want = add.choose(W::zero(), W::zero(), bit);
         let row = groom_row(&mut block[start..start + n], turns, bit, want, tail, mark);
@@ -134,7 +134,7 @@ fn groom_block<W: Word>(block: &mut [W], tail: Tail<W>, first: W, mark: W) -> Pa
 {
     let mut turns = [W::zero(); 513];
     mark_rows(&*block, &mut turns, mark);
-    count_turns(&mut turns, loops::at_most(block.len(), 512));
+    count_turns(&mut turns, block.len().min(512));
     groom_rows(block, &turns, tail, first, mark)
 }
 
@@ -150,7 +150,7 @@ pub fn groom<W: Word>(readings: &mut [W], tail: Tail<W>, first: W, mark: W) -> P
     // By index, as above.
     for b in 0..readings.len().div_ceil(16384) {
         let start = b * 16384;
-        let end = start + loops::at_most(readings.len() - start, 16384);
+        let end = start + (readings.len() - start).min(16384);
         let block = groom_block(&mut readings[start..end], tail, add, mark);
         sums = sums.join::<u64>(block.sums);
         add = block.add;

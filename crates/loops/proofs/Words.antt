@@ -1,6 +1,7 @@
 -- The walk's laws for a slice of words, which `value` reads as numbers.
 use Rattle.std.proofs.Common.{◌≡◌, ℕ, ◌+◌, ◌<◌, ◌≤◌, List, length, take, drop, get_or, sym, ap, ◌∙◌}
 use lib.ListN.{set}
+use native.Mathlib.Nat.{le_refl}
 use mathlib.Core.Path.{subst}
 use mathlib.Core.List.{map}
 use Rattle.std.proofs.lemmas.List.{map-set, get_or-map, length-map, take-map, drop-map}
@@ -9,6 +10,7 @@ use Rattle.reading.specs.Left.{Tally, Settled}
 use Rattle.reading.specs.Words.{settled_at}
 use Rattle.reading.specs.declared.Trimmed.{Trimmed}
 use Rattle.loops.specs.Tallies.{plus, Few}
+use Rattle.loops.proofs.Tallies.{few_wider, few_plus}
 use Rattle.loops.specs.Walk.{state_at, walked_by, tallied_by}
 use Rattle.loops.proofs.Walks.{Walk, room, step, part, few_part}
 
@@ -17,8 +19,10 @@ module _ {W : Type 0} (value : W → ℕ) {next : ℕ → ℕ → ℕ} {f : ℕ 
   read d h = sym (get_or-map value xs i d 0 h)
 
   -- what one reading more asks for
-  pub room_at : (d : W) {r : Trimmed W} {most : ℕ} → i ≤ most → i < length xs → settled_at value r ≡ f s (value (get_or xs i d)) → Few t most × Few (settled_at value r).tally 1
-  room_at d h l e = room inv h (e ∙ ap (f s) (read d l))
+  pub room_at : (d : W) {r : Trimmed W} {most : ℕ} → i + 1 ≤ most → i < length xs → settled_at value r ≡ f s (value (get_or xs i d)) → Few (plus t (settled_at value r).tally) most
+  room_at d {r} {most} h l e =
+      let both = room inv {most = i} (le_refl i) (e ∙ ap (f s) (read d l)) in
+      few_wider _ (i + 1) most h (few_plus t (settled_at value r).tally i 1 both.0 both.1)
 
   -- after one reading more
   pub step_at : (d : W) {r : Trimmed W} {u : Tally} {v : ℕ}

@@ -1,7 +1,7 @@
-// The sums that a loop over readings gathers, and the length of a part. Internal: the calls open to users are those of `trim`.
+// The sums that a loop over readings gathers. Internal: the calls open to users are those of `trim`.
 #![tactic(auto)]
 
-ghost use Rattle.std.specs.Prelude.{◌≡◌, min};
+ghost use Rattle.std.specs.Prelude.{◌≡◌, ◌+◌, ◌-◌, ◌^◌};
 ghost use Rattle.reading.specs.Words.{settled_at};
 ghost use Rattle.loops.specs.Tallies.{none, plus, Few, sums_at, totals_of};
 
@@ -38,15 +38,15 @@ impl<W: Word> Sums<W> {
 
     // With one reading more.
     pub fn plus(self, one: Trimmed<W>) -> Self
-        requires { (Few (sums_at W.value self) 65535) × (Few (settled_at W.value one).tally 1) }
+        requires { Few (plus (sums_at W.value self) (settled_at W.value one).tally) (2 ^ (W.FRACTION + W.EXPONENT + 1) - 1) }
         ensures { sums_at W.value result ≡ plus (sums_at W.value self) (settled_at W.value one).tally }
     {
         Self {
-            changed: self.changed.plus(one.changed),
-            marked: self.marked.plus(one.marked),
-            clipped: self.clipped.plus(one.clipped),
-            missing: self.missing.plus(one.missing),
-            risen: self.risen.plus(one.risen),
+            changed: self.changed.sum(one.changed),
+            marked: self.marked.sum(one.marked),
+            clipped: self.clipped.sum(one.clipped),
+            missing: self.missing.sum(one.missing),
+            risen: self.risen.sum(one.risen),
         }
     }
 }
@@ -65,11 +65,4 @@ impl Sums<u64> {
             risen: self.risen + part.risen.wide(),
         }
     }
-}
-
-// The length of the next part, where n readings are left: n, or the most that a part may have.
-pub fn at_most(n: usize, most: usize) -> usize
-    ensures { result ≡ min n most }
-{
-    n.min(most)
 }

@@ -89,7 +89,7 @@ fn blocks<W: InPlanes>(planes: &mut [u8], n: usize, room: &mut [W], job: Job<W>,
     let mut a: usize = 0;
     // A count by hand: the room says how long a block is, and what is left decides on the last one.
     while a < n {
-        let k = loops::at_most(n - a, room.len());
+        let k = room.len().min(n - a);
         let part = block(planes, n, a, &mut room[0..k], job, add, mark);
         sums = sums.join(part.sums);
         add = part.add;
@@ -115,7 +115,8 @@ fn blocks_of<W: InPlanes, const N: usize>(
 }
 
 // Readings by a method with a setting that is in its range. A long array goes by long blocks, so that what is worked out once for a block costs less. A short one has no large room to clear.
-pub fn by_method<W: InPlanes>(
+// The lengths are the caller's to say: as many bytes for singles as for doubles.
+pub fn by_method<W: InPlanes, const MIDDLE: usize, const LONG: usize>(
     planes: &mut [u8],
     n: usize,
     method: Method,
@@ -123,6 +124,7 @@ pub fn by_method<W: InPlanes>(
     mark: W,
 ) -> Totals
     requires { (Fitting (number_of method) number W.FRACTION W.DIGITS) × (length planes.old ≡ n * W.BYTES) }
+    requires rooms { ((1 ≤ MIDDLE) × (MIDDLE ≤ 16384)) × ((1 ≤ LONG) × (LONG ≤ 16384)) }
     ensures sums { totals_of result ≡ tallied_by (turn_after W.FRACTION W.EXPONENT (W.value mark)) (settled_by W.FRACTION W.EXPONENT (method_by (number_of method) number) (W.value mark)) 0 (P.readings W.BYTES n planes.old) }
     ensures content { planes.new ≡ P.planes W.BYTES (walked_by (turn_after W.FRACTION W.EXPONENT (W.value mark)) (settled_by W.FRACTION W.EXPONENT (method_by (number_of method) number) (W.value mark)) 0 (P.readings W.BYTES n planes.old)) }
 {
@@ -130,7 +132,7 @@ pub fn by_method<W: InPlanes>(
         return blocks_of::<W, 512>(planes, n, method, number, mark);
     }
     if 16384 < n {
-        return blocks_of::<W, 8192>(planes, n, method, number, mark);
+        return blocks_of::<W, LONG>(planes, n, method, number, mark);
     }
-    blocks_of::<W, 2048>(planes, n, method, number, mark)
+    blocks_of::<W, MIDDLE>(planes, n, method, number, mark)
 }

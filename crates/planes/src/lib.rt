@@ -59,8 +59,8 @@ pub fn trim_planes_singles(
 {
     let asked = asking::ask_single(method, setting)?;
     ask_planes(planes.len(), 4, n)?;
-    let sums = plane_blocks::by_method(planes, n, asked.method, asked.number, mark);
-    Ok(trim::counted(sums))
+    let sums = plane_blocks::by_method::<u32, 4096, 16384>(planes, n, asked.method, asked.number, mark);
+    Ok(Counts::from(sums))
 }
 
 // ---- doubles: they differ from the singles by the bytes of a reading and by each call that they make, so one generic function would be no plainer
@@ -102,6 +102,6 @@ pub fn trim_planes_doubles(
 {
     let asked = asking::ask_double(method, setting)?;
     ask_planes(planes.len(), 8, n)?;
-    let sums = plane_blocks::by_method(planes, n, asked.method, asked.number, mark);
-    Ok(trim::counted(sums))
+    let sums = plane_blocks::by_method::<u64, 2048, 8192>(planes, n, asked.method, asked.number, mark);
+    Ok(Counts::from(sums))
 }

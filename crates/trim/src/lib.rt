@@ -7,6 +7,7 @@ ghost use Rattle.meaning.specs.Calls.{trim_singles, trim_doubles, loader};
 ghost use Rattle.loops.specs.Tallies.{totals_of};
 ghost use Rattle.trim.specs.Answers.{counts, counts_of};
 
+use loops::Totals;
 use reading::Trimmed;
 use refusal::Refusal;
 
@@ -21,18 +22,19 @@ pub struct Counts {
     pub fallen: u64,
 }
 
-// The counts of an accepted trim, by the sums over its array. Internal: for this crate and `planes`.
-pub fn counted(t: loops::Totals) -> Counts
-    requires { (t.missing ≤ t.marked) × (t.risen ≤ t.changed) }
-    ensures { counts result ≡ counts_of (totals_of t) }
-{
-    Counts {
-        changed: t.changed,
-        spared: t.marked - t.missing,
-        clipped: t.clipped,
-        missing: t.missing,
-        risen: t.risen,
-        fallen: t.changed - t.risen,
+// The counts of an accepted trim, by the sums over its array.
+impl From<Totals> for Counts {
+    ghost from_gives = { λ t c. counts c ≡ counts_of (totals_of t) };
+
+    fn from(t: Totals) -> Counts {
+        Counts {
+            changed: t.changed,
+            spared: t.marked.saturating_sub(t.missing),
+            clipped: t.clipped,
+            missing: t.missing,
+            risen: t.risen,
+            fallen: t.changed.saturating_sub(t.risen),
+        }
     }
 }
 
@@ -49,7 +51,7 @@ pub fn trim_singles(
 {
     let asked = asking::ask_single(method, setting)?;
     let sums = arrays::by_method(readings, asked.method, asked.number, mark);
-    Ok(counted(sums))
+    Ok(Counts::from(sums))
 }
 
 // The two array calls differ by each call that they make and by both widths in each clause: a generic one would be a closure for each line, and no plainer.
@@ -66,7 +68,7 @@ pub fn trim_doubles(
 {
     let asked = asking::ask_double(method, setting)?;
     let sums = arrays::by_method(readings, asked.method, asked.number, mark);
-    Ok(counted(sums))
+    Ok(Counts::from(sums))
 }
 
 // What the loader's number gains: 2^33 where the exact value rose, 2^34 where it fell.

@@ -1,5 +1,6 @@
 -- What has room in a word, which has one bit more than its magnitudes. For every width.
 use Rattle.std.proofs.Common.{◌≡◌, ℕ, ◌+◌, ◌-◌, ◌*◌, ◌/◌, ◌^◌, ◌<◌, ◌≤◌, cond, ltb, sym, ◌∙◌, subst, le_refl, arith, pow_pos, div-add-mod'}
+use Rattle.std.proofs.Math.Nat.{pow-le-pow_right}
 use native.Mathlib.Nat.{mul-le-mul_right, div-lt_iff_lt-mul, mul_comm, pow-suc}
 use native.Mathlib.Numerals.{add-one}
 use lib.Pow.{pow-add}
@@ -47,3 +48,7 @@ module _ (F X : ℕ) where
   pub magnitude_le : (w m : ℕ) → m ≡ magnitude F X w → m ≤ w
   unfolding magnitude
   magnitude_le w m is = omega (arith, is, div-add-mod' w (2 ^ (F + X)))
+
+  -- the counts of a part of an array have room in a word
+  pub counts_fit : 31 ≤ F + X → 65536 ≤ 2 ^ (F + X + 1) - 1
+  counts_fit h = let l : 2 ^ 32 ≤ 2 ^ (F + X + 1) = pow-le-pow_right {n = 2} (omega arith) {i = 32} {j = F + X + 1} (omega (arith, h)) in omega (arith, l)

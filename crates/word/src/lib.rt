@@ -130,14 +130,6 @@ pub trait Word: Copy + Drop {
         requires { (0 < value self) × (value self < infinity FRACTION EXPONENT) × (1 ≤ n) × (n ≤ DIGITS) × (table.now ≡ powers) }
         ensures { (result ≤ FRACTION) × (new_magnitude FRACTION EXPONENT (digits n) 0 (value self) ≡ halfshaved result (value self)) };
 
-    // The sum of two counts.
-    final fn plus(self, more: Self) -> Self
-        requires { value self + value more < 2 ^ 32 }
-        ensures { value result ≡ value self + value more }
-    {
-        self.sum(more)
-    }
-
     // The bit of row r.
     final fn bit(r: u32) -> Self
         requires { r ≤ 31 }

@@ -1,14 +1,15 @@
 -- The walk's laws at each reading.
-use Rattle.std.proofs.Common.{◌+◌, ◌<◌, length, sym, refl, arith}
+use Rattle.std.proofs.Common.{◌^◌, ◌-◌, ◌+◌, ◌<◌, length, sym, refl, arith}
 use lib.ListN.{length-set}
 use lib.Seq.{get_or-set_other}
 use mathlib.Core.Path.{subst, ◌∙◌}
 use Rattle.std.proofs.lemmas.List.{length-map}
 use Rattle.reading.specs.Left.{Tally}
 use Rattle.loops.specs.Tallies.{Few}
-use Rattle.loops.proofs.Tallies.{few_none, few_plus}
+use Rattle.loops.proofs.Tallies.{few_none, few_plus, few_wider}
 use Rattle.loops.proofs.Walks.{begin, end}
 use Rattle.loops.proofs.Words.{step_at}
+use Rattle.word.proofs.Room.{counts_fit}
 use Rattle.arrays.proofs.each.Goals as goal
 
 pub loop-reading-init : goal.loop-reading-init
@@ -18,6 +19,14 @@ loop-reading-init g c = (
   subst (λ (t : Tally). Few t 0) (sym c.new-sums.ensures) few_none,
   λ f once leaves. begin (λ s w. once w) c.new-sums.ensures,
 )
+
+pub plus-sums-requires : goal.plus-sums-requires
+plus-sums-requires g c =
+    let m = g.W.Word in
+    let at = c.loop-reading in
+    few_wider _ (at.reading-index + 1) (2 ^ (m.FRACTION + m.EXPONENT + 1) - 1)
+    (omega (arith, at.invariant.0, c.loop-reading-test.true, c.requires.few, counts_fit m.FRACTION m.EXPONENT g.met.W.Word.bits))
+    (few_plus _ _ at.reading-index 1 at.invariant.2 (c.requires.counted _ _ c.trim-one.ensures))
 
 pub loop-reading-preserved : goal.loop-reading-preserved
 loop-reading-preserved g c =

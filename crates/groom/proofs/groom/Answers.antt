@@ -24,11 +24,11 @@ join-sums-requires g c =
     let at = c.loop-b in
     let value = g.W.Word.value in
     let start = at.b * 16384 in
-    let k = start + c.at_most.result - start in
+    let k = start + c.min.result - start in
     let starts : min start (length c.args.readings.now) ≡ start = omega (arith, c.div_ceil-b-end.ensures) in
-    few_wider _ (start + k) 0xffff_ffff_ffff_ffff (omega (arith, c.at_most.ensures))
+    few_wider _ (start + k) 0xffff_ffff_ffff_ffff (omega (arith, c.min.ensures))
     (few_part_at value at.readings (walk_at starts at.invariant.0) k
-    (omega (arith, c.at_most.ensures, at.invariant.0.same, length-map at.readings value, length-map c.args.readings.now value, c.div_ceil-b-end.ensures)) c.groom_block-block.ensures.sums)
+    (omega (arith, c.min.ensures, at.invariant.0.same, length-map at.readings value, length-map c.args.readings.now value, c.div_ceil-b-end.ensures)) c.groom_block-block.ensures.sums)
 
 pub loop-b-preserved : goal.loop-b-preserved
 loop-b-preserved g c =
@@ -37,12 +37,12 @@ loop-b-preserved g c =
     let value = g.W.Word.value in
     let r = c.groom_block-block in
     let start = at.b * 16384 in
-    let k = start + c.at_most.result - start in
+    let k = start + c.min.result - start in
     let starts : min start (length s.readings.now) ≡ start = omega (arith, c.div_ceil-b-end.ensures) in
     let block = take k (drop start at.readings) in
-    let to : start + k ≡ min ((at.b + 1) * 16384) (length s.readings.now) = omega (arith, c.at_most.ensures, c.div_ceil-b-end.ensures) in (
+    let to : start + k ≡ min ((at.b + 1) * 16384) (length s.readings.now) = omega (arith, c.min.ensures, c.div_ceil-b-end.ensures) in (
       part_at value at.readings (walk_at starts at.invariant.0) k
-          (omega (arith, c.at_most.ensures, at.invariant.0.same, length-map at.readings value, length-map s.readings.now value, c.div_ceil-b-end.ensures)) r.new.block to
+          (omega (arith, c.min.ensures, at.invariant.0.same, length-map at.readings value, length-map s.readings.now value, c.div_ceil-b-end.ensures)) r.new.block to
           r.ensures.content r.ensures.sums c.join-sums.ensures (r.ensures.add ∙ ap (state_at _ _ (map value block)) (sym (length-map block value))),
       subst (Filling (value s.tail.ones)) (sym r.ensures.add) (states_two g.W.Word.FRACTION g.W.Word.EXPONENT (value s.mark) (value s.tail.ones) (value at.add) at.invariant.1 (map value block) (length block)),
     )

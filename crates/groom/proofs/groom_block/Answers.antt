@@ -12,7 +12,7 @@ pub mark_rows-requires : goal.mark_rows-requires
 mark_rows-requires g c = (omega (arith, g.met.W.Word.narrow), (c.requires.1, refl, all_zero g.W.Word.value 513 c.zero-turns.ensures))
 
 pub count_turns-requires : goal.count_turns-requires
-count_turns-requires g c = (omega (arith, g.met.W.Word.narrow), (omega (arith, c.at_most.ensures), c.mark_rows.ensures.long))
+count_turns-requires g c = (omega (arith, g.met.W.Word.narrow), (omega (arith, c.min.ensures), c.mark_rows.ensures.long))
 
 pub groom_rows-requires : goal.groom_rows-requires
 groom_rows-requires g c =
@@ -24,7 +24,7 @@ groom_rows-requires g c =
         c.requires.0,
         c.requires.1,
         λ r k h.
-            ap (bit_of r) (c.count_turns.ensures.content k (omega (arith, row_length ws r, c.at_most.ensures, length-map c.args.block.now value)))
+            ap (bit_of r) (c.count_turns.ensures.content k (omega (arith, row_length ws r, c.min.ensures, length-map c.args.block.now value)))
             ∙ counted g.W.Word.FRACTION g.W.Word.EXPONENT (value c.args.mark) ws (map value marks.new.turns) marks.ensures.content (length-map marks.new.turns value ∙ marks.ensures.long) r k h,
       ),
     )

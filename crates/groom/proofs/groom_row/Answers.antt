@@ -11,6 +11,7 @@ use Rattle.reading.specs.Words.{settled_at}
 use Rattle.loops.proofs.Tallies.{one_tail}
 use Rattle.loops.proofs.Walks.{begin, end}
 use Rattle.loops.proofs.Words.{room_at, step_at}
+use Rattle.word.proofs.Room.{counts_fit}
 use Rattle.rows.specs.Rows.{fill_at}
 use Rattle.groom.proofs.Words.{fill_is}
 use Rattle.groom.proofs.groom_row.Given as given
@@ -39,7 +40,7 @@ pub plus-sums-requires : goal.plus-sums-requires
 plus-sums-requires g c =
     let at = c.loop-i in
     let value = g.W.Word.value in
-    room_at value at.row at.invariant c.index-row-i.result (omega arith) (omega (arith, at.invariant.same, length-map at.row value, length-map c.args.row.now value)) (is g (goal.at.plus-sums-requires g c).After-with_tail-one)
+    room_at value at.row at.invariant c.index-row-i.result (omega (arith, counts_fit g.W.Word.FRACTION g.W.Word.EXPONENT g.met.W.Word.bits)) (omega (arith, at.invariant.same, length-map at.row value, length-map c.args.row.now value)) (is g (goal.at.plus-sums-requires g c).After-with_tail-one)
 
 pub loop-i-preserved : goal.loop-i-preserved
 loop-i-preserved g c =

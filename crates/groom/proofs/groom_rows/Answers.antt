@@ -41,7 +41,7 @@ columns : (g : given.Over) (c : After-groom_row-row g)
     let at = c.loop-r in
     let value = g.W.Word.value in
     let start = at.r * 512 in
-    let row = map value (take (start + c.at_most-n.result - start) (drop start at.block)) in
+    let row = map value (take (start + c.min-n.result - start) (drop start at.block)) in
     (k : ℕ) → k ≤ length row
     → fill_at (map value s.turns.now) (value c.bit-bit.result) (value c.choose-want.result) (value s.tail.ones) k
     ≡ state_at (filling_after g.W.Word.FRACTION g.W.Word.EXPONENT (value s.tail.ones) (value s.mark)) (value at.add) row k
@@ -52,7 +52,7 @@ columns g c =
     let start = at.r * 512 in
     filled g.W.Word.FRACTION g.W.Word.EXPONENT (value s.mark) (map value s.block.now) (map value s.turns.now) c.requires.2 (value s.tail.ones) (value at.add) at.invariant.1 at.r c.bit-bit.ensures
     (c.choose-want.ensures ∙ ap₂ (λ (a b : ℕ). cond (eqb (value at.add) a) b (value c.bit-bit.result)) c.zero.ensures c.zero-in-loop-r.ensures)
-    (row_is_at value at.block s.block.now start at.r (start + c.at_most-n.result - start) refl (same g c) (omega (arith, c.div_ceil-r-end.ensures)) (omega (arith, c.at_most-n.ensures)))
+    (row_is_at value at.block s.block.now start at.r (start + c.min-n.result - start) refl (same g c) (omega (arith, c.div_ceil-r-end.ensures)) (omega (arith, c.min-n.ensures)))
 
 -- and so the row is walked as the whole is
 walks : (g : given.Over) (c : After-groom_row-row g)
@@ -60,7 +60,7 @@ walks : (g : given.Over) (c : After-groom_row-row g)
     let at = c.loop-r in
     let value = g.W.Word.value in
     let start = at.r * 512 in
-    let row = map value (take (start + c.at_most-n.result - start) (drop start at.block)) in
+    let row = map value (take (start + c.min-n.result - start) (drop start at.block)) in
     let next = filling_after g.W.Word.FRACTION g.W.Word.EXPONENT (value s.tail.ones) (value s.mark) in
     let f : ℕ → ℕ → Settled = λ v w. settled_tail g.W.Word.FRACTION g.W.Word.EXPONENT s.tail.bits v (value s.mark) w in
     (sums_at value c.groom_row-row.result ≡ tallied_by next f (value at.add) row)
@@ -70,17 +70,17 @@ walks g c =
     let at = c.loop-r in
     let value = g.W.Word.value in
     let start = at.r * 512 in
-    let row = map value (take (start + c.at_most-n.result - start) (drop start at.block)) in
+    let row = map value (take (start + c.min-n.result - start) (drop start at.block)) in
     let next = filling_after g.W.Word.FRACTION g.W.Word.EXPONENT (value s.tail.ones) (value s.mark) in
     let f : ℕ → ℕ → Settled = λ v w. settled_tail g.W.Word.FRACTION g.W.Word.EXPONENT s.tail.bits v (value s.mark) w in
     let fill = fill_at (map value s.turns.now) (value c.bit-bit.result) (value c.choose-want.result) (value s.tail.ones) in
     let told : (k : ℕ) → k < length row → fill (0 + k) ≡ state_at next (value at.add) row k = λ k h. ap fill (zero-add k) ∙ columns g c k (omega arith) in
     (c.groom_row-row.ensures.sums ∙ told_tallied f next fill row (value at.add) 0 told, c.groom_row-row.ensures.content ∙ told_walked f next fill row (value at.add) 0 told)
 
-fits : (g : given.Over) (c : After-groom_row-row g) → let start = c.loop-r.r * 512 in start + (start + c.at_most-n.result - start) ≤ length c.loop-r.block
+fits : (g : given.Over) (c : After-groom_row-row g) → let start = c.loop-r.r * 512 in start + (start + c.min-n.result - start) ≤ length c.loop-r.block
 fits g c =
     let value = g.W.Word.value in
-    omega (arith, c.at_most-n.ensures, c.loop-r.invariant.0.same, length-map c.loop-r.block value, length-map c.args.block.now value, c.div_ceil-r-end.ensures)
+    omega (arith, c.min-n.ensures, c.loop-r.invariant.0.same, length-map c.loop-r.block value, length-map c.args.block.now value, c.div_ceil-r-end.ensures)
 
 -- the walk so far, from where the row starts
 here : (g : given.Over) (c : After-groom_row-row g)
@@ -101,9 +101,9 @@ join-sums-requires g c =
     let at = c.loop-r in
     let value = g.W.Word.value in
     let start = at.r * 512 in
-    let k = start + c.at_most-n.result - start in
+    let k = start + c.min-n.result - start in
     let row = (goal.at.join-sums-requires g c).After-groom_row-row in
-    few_wider _ (start + k) 0xffff_ffff_ffff_ffff (omega (arith, c.at_most-n.ensures, c.requires.1))
+    few_wider _ (start + k) 0xffff_ffff_ffff_ffff (omega (arith, c.min-n.ensures, c.requires.1))
     (few_part_at value at.block (here g row) k (fits g row) (walks g row).0)
 
 pub loop-r-preserved : goal.loop-r-preserved
@@ -112,15 +112,15 @@ loop-r-preserved g c =
     let at = c.loop-r in
     let value = g.W.Word.value in
     let start = at.r * 512 in
-    let n = c.at_most-n.result in
+    let n = c.min-n.result in
     let k = start + n - start in
     let row = (goal.at.loop-r-preserved g c).After-groom_row-row in
     let now = map value (take k (drop start at.block)) in
     let next = filling_after g.W.Word.FRACTION g.W.Word.EXPONENT (value s.tail.ones) (value s.mark) in
     let f : ℕ → ℕ → Settled = λ v w. settled_tail g.W.Word.FRACTION g.W.Word.EXPONENT s.tail.bits v (value s.mark) w in
     let long : length now ≡ n = omega (arith, length-map (take k (drop start at.block)) value, length-take k (drop start at.block), length-drop start at.block, fits g row) in
-    let to : start + k ≡ min ((at.r + 1) * 512) (length s.block.now) = omega (arith, c.at_most-n.ensures, c.div_ceil-r-end.ensures) in
-    let after = c.filling-add.ensures.value ∙ fill_is value s.turns.now (value c.bit-bit.result) (value c.choose-want.result) (value s.tail.ones) n _ (omega (arith, c.type_inv.turns, c.at_most-n.ensures)) ∙ columns g row n (omega arith) in (
+    let to : start + k ≡ min ((at.r + 1) * 512) (length s.block.now) = omega (arith, c.min-n.ensures, c.div_ceil-r-end.ensures) in
+    let after = c.filling-add.ensures.value ∙ fill_is value s.turns.now (value c.bit-bit.result) (value c.choose-want.result) (value s.tail.ones) n _ (omega (arith, c.type_inv.turns, c.min-n.ensures)) ∙ columns g row n (omega arith) in (
       part_at value at.block (here g row) k (fits g row) row.groom_row-row.new.row to (walks g row).1 (walks g row).0 c.join-sums.ensures (after ∙ ap (state_at next (value at.add) now) (sym long)),
       subst (Filling (value s.tail.ones)) (sym after) (states_two g.W.Word.FRACTION g.W.Word.EXPONENT (value s.mark) (value s.tail.ones) (value at.add) at.invariant.1 now n),
       rest_same_at value at.block s.block.now row.groom_row-row.new.row start k (min ((at.r + 1) * 512) (length s.block.now)) to

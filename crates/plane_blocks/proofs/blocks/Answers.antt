@@ -25,7 +25,7 @@ block-part-requires g c =
     let j = number_of s.job.method in
     let mark = m.value s.mark in
     let at = c.loop-a in
-    let k = c.at_most-k in
+    let k = c.min-k in
     let l = front_long at.room k.result (omega (arith, k.ensures)) in
     ((c.requires.0, at.invariant.1.0), omega (arith, l, k.ensures), rw l (block_room (next_with m.FRACTION m.EXPONENT j s.job.n mark) (settled_with m.FRACTION m.EXPONENT j s.job.n mark) g.W.InPlanes.BYTES s.n s.planes.now c.requires.2 (one_with m.FRACTION m.EXPONENT j s.job.n mark) at.invariant.0 k.result (omega (arith, k.ensures))))
 
@@ -36,7 +36,7 @@ join-sums-requires g c =
     let j = number_of s.job.method in
     let mark = m.value s.mark in
     let at = c.loop-a in
-    let k = c.at_most-k in
+    let k = c.min-k in
     let l = front_long at.room k.result (omega (arith, k.ensures)) in
     few_wider _ (at.a + k.result) 0xffff_ffff_ffff_ffff (omega (arith, k.ensures)) (few_block (next_with m.FRACTION m.EXPONENT j s.job.n mark) (settled_with m.FRACTION m.EXPONENT j s.job.n mark) g.W.InPlanes.BYTES s.n s.planes.now c.requires.2 (one_with m.FRACTION m.EXPONENT j s.job.n mark) at.invariant.0 k.result (omega (arith, k.ensures)) (rw l at c.block-part.ensures.sums))
 
@@ -47,7 +47,7 @@ loop-a-preserved g c =
     let j = number_of s.job.method in
     let mark = m.value s.mark in
     let at = c.loop-a in
-    let k = c.at_most-k in
+    let k = c.min-k in
     let r = c.block-part in
     let l = front_long at.room k.result (omega (arith, k.ensures)) in
     let sums = rw l at r.ensures.sums in

@@ -7,7 +7,7 @@ use Rattle.meaning.specs.Planes.{readings}
 use Rattle.asking.specs.Asked.{refusal_of}
 use Rattle.method.specs.Kinds.{number_of}
 use Rattle.loops.specs.Tallies.{totals_of}
-use Rattle.trim.proofs.Calls.{double_fitting, fewer_sums}
+use Rattle.trim.proofs.Calls.{double_fitting}
 use Rattle.planes.proofs.Calls.{refused_early, refused_late, accepted_planes}
 use Rattle.planes.proofs.trim_planes_doubles.Goals as goal
 
@@ -35,15 +35,6 @@ by_method-sums-requires c =
     let m = simp (to_z-of_z w32 c.args.setting c.ranges.setting) at a.number in
     (double_fitting c.args.method c.args.setting (number_of c.in_ok-asked.asked.method) c.in_ok-asked.asked.number a.method e m, c.in_ok-ask_planes.ensures)
 
-pub counted-requires : goal.counted-requires
-counted-requires c =
-    let a = c.in_ok-asked.ensures in
-    let e = simp (to_z-of_z w32 c.args.setting c.ranges.setting) at a.refusal in
-    let m = simp (to_z-of_z w32 c.args.setting c.ranges.setting) at a.number in
-    let sums = c.by_method-sums in
-    fewer_sums 52 11 c.args.method c.args.setting (number_of c.in_ok-asked.asked.method) c.in_ok-asked.asked.number a.method e m
-    c.args.mark (readings 8 c.args.n c.args.planes.now) (totals_of sums.result) sums.ensures.sums
-
 pub returns : goal.returns
 returns c =
     let a = c.in_ok-asked.ensures in
@@ -52,4 +43,4 @@ returns c =
     let sums = c.by_method-sums in
     let call = accepted_planes 8 52 11 c.args.method c.args.setting c.args.mark c.args.n c.args.planes.now (number_of c.in_ok-asked.asked.method) c.in_ok-asked.asked.number a.method e m
     c.in_ok-ask_planes.ensures (totals_of sums.result) sums.ensures.sums sums.new.planes sums.ensures.content in
-    record { answer = ap accepted c.counted.ensures ∙ call.0; content = call.1 }
+    record { answer = ap accepted c.from.ensures ∙ call.0; content = call.1 }

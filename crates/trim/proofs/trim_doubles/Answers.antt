@@ -7,7 +7,7 @@ use Rattle.asking.specs.Asked.{refusal_of}
 use Rattle.method.specs.Kinds.{number_of}
 use Rattle.loops.specs.Tallies.{totals_of}
 use Rattle.arrays.proofs.Outcomes.{of_numbers}
-use Rattle.trim.proofs.Calls.{refused_call, double_fitting, fewer_sums, accepted_call}
+use Rattle.trim.proofs.Calls.{refused_call, double_fitting, accepted_call}
 use Rattle.trim.proofs.trim_doubles.Goals as goal
 
 pub returns-in_err-asked : goal.returns-in_err-asked
@@ -25,15 +25,6 @@ by_method-sums-requires c =
     let m = simp (to_z-of_z w32 c.args.setting c.ranges.setting) at a.number in
     double_fitting c.args.method c.args.setting (number_of c.in_ok-asked.asked.method) c.in_ok-asked.asked.number a.method e m
 
-pub counted-requires : goal.counted-requires
-counted-requires c =
-    let a = c.in_ok-asked.ensures in
-    let e = simp (to_z-of_z w32 c.args.setting c.ranges.setting) at a.refusal in
-    let m = simp (to_z-of_z w32 c.args.setting c.ranges.setting) at a.number in
-    let sums = c.by_method-sums in
-    fewer_sums 52 11 c.args.method c.args.setting (number_of c.in_ok-asked.asked.method) c.in_ok-asked.asked.number a.method e m
-    c.args.mark c.args.readings.now (totals_of sums.result) (of_numbers sums.ensures).0
-
 pub returns : goal.returns
 returns c =
     let a = c.in_ok-asked.ensures in
@@ -42,4 +33,4 @@ returns c =
     let sums = c.by_method-sums in
     let call = accepted_call 52 11 c.args.method c.args.setting (number_of c.in_ok-asked.asked.method) c.in_ok-asked.asked.number a.method e m
     c.args.mark c.args.readings.now (totals_of sums.result) (of_numbers sums.ensures).0 sums.new.readings (of_numbers sums.ensures).1 in
-    record { answer = ap accepted c.counted.ensures ∙ call.0; content = call.1 }
+    record { answer = ap accepted c.from.ensures ∙ call.0; content = call.1 }
