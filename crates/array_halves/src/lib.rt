@@ -5,12 +5,16 @@
 
 ghost use Rattle.std.specs.Prelude.{◌≡◌, ◌+◌, ◌*◌, ◌/◌, ◌%◌, ◌^◌, ◌≤◌, ℕ, length};
 ghost use mathlib.Core.List.{map, zip_with};
+ghost use Rattle.std.proofs.Math.Nat.{le-add_right};
 
 // A number of some bytes, which contracts read as a natural number.
 pub trait Number: Copy {
     ghost value: { Self → ℕ };
 
     ghost BYTES: { ℕ };
+
+    // At most eight: the number of their bits is a u32.
+    ghost few_bytes: { BYTES ≤ 8 };
 
     const BYTES: usize;
 }
@@ -20,6 +24,8 @@ impl Number for u8 {
 
     ghost BYTES = { 1 };
 
+    ghost few_bytes = { le-add_right 1 7 };
+
     const BYTES: usize = 1;
 }
 
@@ -27,6 +33,8 @@ impl Number for u16 {
     ghost value = { λ x. x };
 
     ghost BYTES = { 2 };
+
+    ghost few_bytes = { le-add_right 2 6 };
 
     const BYTES: usize = 2;
 }
@@ -36,6 +44,8 @@ impl Number for u32 {
 
     ghost BYTES = { 4 };
 
+    ghost few_bytes = { le-add_right 4 4 };
+
     const BYTES: usize = 4;
 }
 
@@ -44,25 +54,26 @@ impl Number for u64 {
 
     ghost BYTES = { 8 };
 
+    ghost few_bytes = { le-add_right 8 0 };
+
     const BYTES: usize = 8;
 }
 
 // A number of two halves.
 pub trait Halves<Half: Number>: Number {
-    // The half of a number that starts at this byte, the low one at 0.
-    fn half(self, byte: usize) -> Half
-        requires { byte ≤ Half.BYTES }
-        ensures { Half.value result ≡ Self.value self / 256 ^ byte % 256 ^ Half.BYTES };
+    // The half of a number that starts at this bit, the low one at 0.
+    fn half(self, shift: u32) -> Half
+        requires { shift ≤ 8 * Half.BYTES }
+        ensures { Half.value result ≡ Self.value self / 2 ^ shift % 256 ^ Half.BYTES };
 
     // A number of its low and its high half.
     fn joined(low: Half, high: Half) -> Self
         ensures { Self.value result ≡ Half.value low + 256 ^ Half.BYTES * Half.value high };
 }
 
-#[tactic(auto, using(crate::proofs::Bytes::from_byte))]
 impl Halves<u8> for u16 {
-    fn half(self, byte: usize) -> u8 {
-        ((self >> (8 * byte)) % 256) as u8
+    fn half(self, shift: u32) -> u8 {
+        ((self >> shift) % 256) as u8
     }
 
     fn joined(low: u8, high: u8) -> u16 {
@@ -70,10 +81,9 @@ impl Halves<u8> for u16 {
     }
 }
 
-#[tactic(auto, using(crate::proofs::Bytes::from_byte))]
 impl Halves<u16> for u32 {
-    fn half(self, byte: usize) -> u16 {
-        ((self >> (8 * byte)) % 65536) as u16
+    fn half(self, shift: u32) -> u16 {
+        ((self >> shift) % 65536) as u16
     }
 
     fn joined(low: u16, high: u16) -> u32 {
@@ -81,10 +91,9 @@ impl Halves<u16> for u32 {
     }
 }
 
-#[tactic(auto, using(crate::proofs::Bytes::from_byte))]
 impl Halves<u32> for u64 {
-    fn half(self, byte: usize) -> u32 {
-        ((self >> (8 * byte)) % 4294967296) as u32
+    fn half(self, shift: u32) -> u32 {
+        ((self >> shift) % 4294967296) as u32
     }
 
     fn joined(low: u32, high: u32) -> u64 {
@@ -92,13 +101,14 @@ impl Halves<u32> for u64 {
     }
 }
 
-// The halves of numbers that start at this byte.
-pub fn cut<Half: Number, Whole: Halves<Half>>(numbers: &[Whole], byte: usize, halves: &mut [Half])
-    requires { (byte ≤ Half.BYTES) × (length numbers.now ≡ length halves.old) }
-    ensures { map Half.value halves.new ≡ map (λ w. Whole.value w / 256 ^ byte % 256 ^ Half.BYTES) numbers.now }
+// The halves of numbers that start at this bit.
+pub fn cut<Half: Number, Whole: Halves<Half>>(numbers: &[Whole], shift: u32, halves: &mut [Half])
+    requires { (shift ≤ 8 * Half.BYTES) × (length numbers.now ≡ length halves.old) }
+    ensures { map Half.value halves.new ≡ map (λ w. Whole.value w / 2 ^ shift % 256 ^ Half.BYTES) numbers.now }
 {
+    // No `zip`: after an adapter of `iter_mut` a proof knows no element that was written.
     for (i, half) in halves.iter_mut().enumerate() {
-        *half = numbers[i].half(byte);
+        *half = numbers[i].half(shift);
     }
 }
 
@@ -107,6 +117,7 @@ pub fn join<Half: Number, Whole: Halves<Half>>(low: &[Half], high: &[Half], numb
     requires { (length low.now ≡ length numbers.old) × (length high.now ≡ length numbers.old) }
     ensures { map Whole.value numbers.new ≡ zip_with (λ l h. Half.value l + 256 ^ Half.BYTES * Half.value h) low.now high.now }
 {
+    // No `zip`, as in `cut`.
     for (i, number) in numbers.iter_mut().enumerate() {
         *number = Whole::joined(low[i], high[i]);
     }

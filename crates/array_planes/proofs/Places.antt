@@ -2,9 +2,10 @@
 use mathlib.Core.Path.{◌≡◌, refl, sym, ap, ap₂, ◌∙◌}
 use mathlib.Core.List.{List, [], ◌∷◌, ◌++◌, map, zip_with, append_assoc, append-nil}
 use Prim.Native.Nat.{ℕ, zero, suc, ◌+◌, ◌-◌, ◌*◌, ◌/◌, ◌%◌, ◌^◌, ◌≤◌, ◌<◌}
-use native.Mathlib.Nat.{pow-zero, pow-suc, suc-mul, mul_assoc, mul_comm, zero-mul, div-one, div-div-eq-div-mul}
+use native.Mathlib.Nat.{pow-zero, pow-suc, mul-suc, suc-mul, mul_assoc, mul_comm, zero-mul, div-one, div-div-eq-div-mul}
 use native.Mathlib.Omega.{arith}
 use lib.Arith.{mod-mul}
+use lib.Pow.{pow-add}
 use lib.ListN.{length, take, drop, replicate, length-take, length-drop, length-map, length-replicate}
 use lib.Seq.{take_all, take-add, drop-drop, length-take-le}
 use Rattle.std.proofs.lemmas.List.{map-append}
@@ -298,17 +299,22 @@ fetched_pairs n a k ps =
 pub front_long : {A : Type 0} (z : List A) (k : ℕ) → k ≤ length z → length (take (k - 0) (drop 0 z)) ≡ k
 front_long z k h = simp length-take (omega arith)
 
+-- a byte has eight bits
+bits_of : (m : ℕ) → 2 ^ (8 * m) ≡ 256 ^ m
+bits_of zero = refl
+bits_of (suc m) = ap (λ (n : ℕ). 2 ^ n) (mul-suc 8 m) ∙ pow-add 2 (8 * m) 8 ∙ ap (λ (x : ℕ). x * 256) (bits_of m) ∙ sym (pow-suc 256 m)
+
 -- a block ws of numbers that v reads, by its halves, which u reads; the high ones begin at the byte m
 module _ {W H : Type 0} (v : W → ℕ) (u : H → ℕ) (B n a : ℕ) (ps : List ℕ) (m : ℕ) (em : m ≡ B) where
   -- written: the low halves xs, then the high ones ys
   pub stored_block : (ws : List W) (xs ys : List H) {qs rs : List ℕ} → map u xs ≡ map (λ w. v w / 1 % 256 ^ B) ws → qs ≡ stored B n a (length xs) (map u xs) ps
-      → map u ys ≡ map (λ w. v w / 256 ^ m % 256 ^ B) ws → rs ≡ stored B n (m * n + a) (length ys) (map u ys) qs → rs ≡ stored (B + B) n a (length ws) (map v ws) ps
+      → map u ys ≡ map (λ w. v w / 2 ^ (8 * m) % 256 ^ B) ws → rs ≡ stored B n (m * n + a) (length ys) (map u ys) qs → rs ≡ stored (B + B) n a (length ws) (map v ws) ps
   stored_block ws xs ys {qs} {rs} ex eq ey er =
       let k = length ws in
       let xl : length xs ≡ k = sym (length-map xs u) ∙ ap length ex ∙ length-map ws (λ (w : W). v w / 1 % 256 ^ B) in
-      let yl : length ys ≡ k = sym (length-map ys u) ∙ ap length ey ∙ length-map ws (λ (w : W). v w / 256 ^ m % 256 ^ B) in
+      let yl : length ys ≡ k = sym (length-map ys u) ∙ ap length ey ∙ length-map ws (λ (w : W). v w / 2 ^ (8 * m) % 256 ^ B) in
       er
-      ∙ ap₂ (λ (j : ℕ) (l : List ℕ). stored B n (m * n + a) j l qs) yl (ey ∙ sym (map_map (λ w. w / 256 ^ m % 256 ^ B) v ws))
+      ∙ ap₂ (λ (j : ℕ) (l : List ℕ). stored B n (m * n + a) j l qs) yl (ey ∙ ap (λ (d : ℕ). map (λ w. v w / d % 256 ^ B) ws) (bits_of m) ∙ sym (map_map (λ w. w / 256 ^ m % 256 ^ B) v ws))
       ∙ ap (stored B n (m * n + a) k (map (λ w. w / 256 ^ m % 256 ^ B) (map v ws))) (eq ∙ ap₂ (λ (j : ℕ) (l : List ℕ). stored B n a j l ps) xl (ex ∙ sym (map_map (λ w. w / 1 % 256 ^ B) v ws)))
       ∙ ap (λ (j : ℕ). stored B n (j * n + a) k (map (λ w. w / 256 ^ j % 256 ^ B) (map v ws)) (stored B n a k (map (λ w. w / 1 % 256 ^ B) (map v ws)) ps)) em
       ∙ stored_halves B n a k (map v ws) ps

@@ -1,6 +1,6 @@
 // Readings in byte planes: what is written to the planes of n readings from a place on, and what is read there. All bytes of a plane stand together, so the next byte of a reading
-// stands n further on. By blocks that stay in the nearest cache, and by halves (`array_halves`): a double is two words, a single or a word two pairs, a pair two bytes. Internal: the
-// calls open to users are those of `planes`.
+// stands n further on. By blocks that stay in the nearest cache, and by halves (`array_halves`): a double is two words, a single or a word two pairs, a pair two bytes. `n` and `at`
+// stay beside the buffer: the planes of one array stand n apart in it, and a block is written at its place in each. Internal: the calls open to users are those of `planes`.
 #![tactic(auto)]
 
 ghost use Rattle.std.specs.Prelude.{◌≡◌, ◌+◌, ◌≤◌, ◌<◌, length};
@@ -47,7 +47,7 @@ impl Planes for u16 {
     fn write(block: &[u16], planes: &mut [u8], n: usize, at: usize, _room: &mut ()) {
         let to = at + block.len();
         array_halves::cut(block, 0, &mut planes[at..to]);
-        array_halves::cut(block, 1, &mut planes[n + at..n + to]);
+        array_halves::cut(block, 8, &mut planes[n + at..n + to]);
     }
 
     fn read(planes: &[u8], n: usize, at: usize, block: &mut [u16], _room: &mut ()) {
@@ -108,7 +108,7 @@ fn write_halves<Half: Planes, Whole: Halves<Half>>(
     let halves = &mut halves[..block.len()];
     array_halves::cut(block, 0, halves);
     Half::write(halves, planes, n, at, room);
-    array_halves::cut(block, bytes, halves);
+    array_halves::cut(block, 8 * bytes as u32, halves);
     Half::write(halves, planes, n, bytes * n + at, room);
 }
 
@@ -169,7 +169,7 @@ fn read_blocks<Reading: Planes>(
     }
 }
 
-// ---- for the crates above
+// ---- for the crates above: singles and doubles apart, since their rooms have lengths of their own, and the crates above call them by these names
 
 // Writes singles to 4 planes.
 pub fn write_singles(readings: &[u32], planes: &mut [u8], n: usize, at: usize)
