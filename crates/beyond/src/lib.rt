@@ -79,6 +79,7 @@ pub fn first_beyond_singles(
     Ok(first_beyond(raw, trimmed, mark, asked.number))
 }
 
+// The two calls differ by the question that they put, and by both widths in the clause: C calls each, and a generic one above them would be no plainer.
 // The same of doubles; 2 for a p that isn't -1074 to 1023.
 pub fn first_beyond_doubles(
     raw: &[u64],
