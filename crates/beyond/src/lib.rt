@@ -2,12 +2,15 @@
 // and no further, so that the number of readings read is the one that the loop has counted.
 #![tactic(auto)]
 
-ghost use Rattle.std.specs.Prelude.{◌≡◌, ◌≢◌, ℕ, ◌<◌, MatchResult};
-ghost use Rattle.meaning.specs.Comparing.{first_beyond_singles, first_beyond_doubles};
-ghost use Rattle.beyond.specs.Answers.{answer_of, FirstTrue};
+ghost use Rattle.std.specs.Prelude.{◌≡◌, ◌≢◌, ℕ, ◌+◌, ◌^◌, ◌<◌, MatchResult, length, map, get_or};
+ghost use Rattle.meaning.specs.Comparing.{beyond, compared, first_beyond_singles, first_beyond_doubles};
+ghost use Rattle.reading_pair.specs.Limit.{limit_for};
+ghost use Rattle.beyond.specs.Answers.{found_of, answer_of, FirstTrue};
 
 use method::Method;
+use reading_pair::Near;
 use refusal::Refusal;
+use word::Word;
 
 // What a comparison answers: the first place beyond the limit, where there is one, and how many readings of each array were read.
 #[derive(Clone, Copy, Debug, PartialEq, Eq)]
@@ -45,6 +48,22 @@ fn scan<F: Fn(usize) -> bool>(n: usize, beyond: F) -> Compared
     }
 }
 
+// The first place of two arrays of one length where both readings are present and finite and lie more than 2^q least spacings apart.
+fn first_beyond<W: Near>(raw: &[W], trimmed: &[W], mark: W, q: u32) -> Compared
+    requires { (length raw.now ≡ length trimmed.now) × (q + 2 < 2 ^ W.EXPONENT + W.FRACTION) }
+    ensures { found_of result ≡ compared W.FRACTION W.EXPONENT (W.value mark) q (map W.value raw.now) (map W.value trimmed.now) }
+{
+    let q = u64::from(q);
+    let limit = reading_pair::limit_of(q);
+    scan(
+        raw.len(),
+        |i: usize| -> bool
+            requires { (i < length raw.now) × (length raw.now ≡ length trimmed.now) × (q + 2 < 2 ^ W.EXPONENT + W.FRACTION) × (W.value limit ≡ limit_for W.FRACTION q) }
+            ensures { result ≡ beyond W.FRACTION W.EXPONENT (W.value mark) q (get_or (map W.value raw.entry.now) i 0) (get_or (map W.value trimmed.entry.now) i 0) }
+        { reading_pair::is_beyond(raw[i], trimmed[i], mark, q, limit) },
+    )
+}
+
 // The first place where the raw and the trimmed single are both present and finite and lie more than 2^p apart, exactly; or none. The mark means missing and is compared
 // by its bits. Refused with 10 where the arrays differ in length, with 2 for a p that isn't -149 to 127.
 pub fn first_beyond_singles(
@@ -57,14 +76,10 @@ pub fn first_beyond_singles(
 {
     ask_lengths(raw.len(), trimmed.len())?;
     let asked = asking::ask_single(Method::Absolute.number(), p)?;
-    let q = asked.number;
-    let limit = reading_pair::limit_single(q);
-    Ok(scan(
-        raw.len(),
-        |i| reading_pair::beyond_single(raw[i], trimmed[i], mark, q, limit),
-    ))
+    Ok(first_beyond(raw, trimmed, mark, asked.number))
 }
 
+// The two calls differ by the question that they put, and by both widths in the clause: C calls each, and a generic one above them would be no plainer.
 // The same of doubles; 2 for a p that isn't -1074 to 1023.
 pub fn first_beyond_doubles(
     raw: &[u64],
@@ -76,10 +91,5 @@ pub fn first_beyond_doubles(
 {
     ask_lengths(raw.len(), trimmed.len())?;
     let asked = asking::ask_double(Method::Absolute.number(), p)?;
-    let q = u64::from(asked.number);
-    let limit = reading_pair::limit_double(q);
-    Ok(scan(
-        raw.len(),
-        |i| reading_pair::beyond_double(raw[i], trimmed[i], mark, q, limit),
-    ))
+    Ok(first_beyond(raw, trimmed, mark, asked.number))
 }

@@ -8,18 +8,6 @@ ghost use Rattle.std.specs.Prelude.{◌≡◌, cond, ℕ, min, max, ◌+◌, ◌
 ghost use Rattle.meaning.specs.Readings.{size, spacing_exp, position, distance};
 ghost use Rattle.reading_apart.specs.Words.{cut_limit, significand, Finite};
 
-fn smaller(a: u64, b: u64) -> u64
-    ensures { result ≡ min a b }
-{
-    if a < b { a } else { b }
-}
-
-fn larger(a: u64, b: u64) -> u64
-    ensures { result ≡ max a b }
-{
-    if a < b { b } else { a }
-}
-
 // Twice the significand of a magnitude whose spacing is 2^exponent, with this number of fraction bits.
 fn twice_significand(bits: u64, m: u64, exponent: u64) -> u64
     requires { (bits ≤ 52) × (exponent ≡ spacing_exp bits m) }
@@ -38,7 +26,7 @@ fn limit_at(bits: u64, exponent: u64, q: u64) -> u64
     if q + 1 < exponent {
         return 0;
     }
-    absolute::power(smaller(q + 1 - exponent, bits + 3))
+    absolute::power((q + 1 - exponent).min(bits + 3))
 }
 
 // Is the difference of two sizes, or with opposite signs their sum, more than 2^q? `high` and `low` are the magnitudes.
@@ -51,7 +39,7 @@ fn far(bits: u64, high: u64, low: u64, opposite: bool, q: u64) -> bool
     let u = twice_significand(bits, high, x);
     let v = twice_significand(bits, low, y);
     let limit = limit_at(bits, x, q);
-    let d = smaller(x - y, bits + 3);
+    let d = (x - y).min(bits + 3);
     if opposite {
         // rounded up: a sum is above a whole limit where it is so rounded up
         return limit < u + ((v + (absolute::power(d) - 1)) >> d);
@@ -66,5 +54,5 @@ pub fn apart(bits: u64, top: u64, w: u64, v: u64, q: u64) -> bool
 {
     let a = w % top;
     let b = v % top;
-    far(bits, larger(a, b), smaller(a, b), w / top != v / top, q)
+    far(bits, a.max(b), a.min(b), w / top != v / top, q)
 }

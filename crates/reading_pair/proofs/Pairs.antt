@@ -2,15 +2,16 @@
 use mathlib.Core.Path.{◌≡◌, refl, sym, ◌∙◌}
 use mathlib.Core.Logic.{◌≢◌}
 use mathlib.Core.Bool.{Bool, true, false}
-use Prim.Native.Nat.{ℕ, ◌^◌, ◌≤◌, ◌<◌}
+use Prim.Native.Nat.{ℕ, ◌+◌, ◌^◌, ◌≤◌, ◌<◌}
 use native.Mathlib.Decide.{dec_lt}
+use native.Mathlib.Numerals.{add-one}
 use native.Mathlib.Omega.{arith}
 use borrow.Author.Tests.{eq-eqb, ne_eqb, lt-ltb, le-ltb}
 use lib.Dec.{ltb}
 use Rattle.meaning.specs.Readings.{size, sign, magnitude, infinity, finite, position, distance, present, missing}
 use Rattle.meaning.specs.Methods.{trimmable}
 use Rattle.meaning.specs.Comparing.{beyond}
-use Rattle.meaning.proofs.Patterns.{position_distance}
+use Rattle.meaning.proofs.Patterns.{position_distance, sign_one}
 use Rattle.meaning.proofs.Accepted.{and_false}
 use Rattle.meaning.proofs.OneReading.{trimmable_below}
 use Rattle.meaning.proofs.Comparing.{near_within, first_out, swapped}
@@ -28,6 +29,10 @@ module _ (F X w : ℕ) where
 
   pub chosen : magnitude F X w < infinity F X → magnitude F X w ≡ finite_or0 F X w
   chosen h = sym (finite_or_0 h)
+
+  -- a word has one bit more than its magnitudes
+  pub sign_small : w < 2 ^ (F + X + 1) → sign F X w ≤ 1
+  sign_small h = sign_one F X w (rw add-one at h)
 
   pub chosen_finite : 0 < infinity F X → finite_or0 F X w < infinity F X
   chosen_finite p = go (dec_lt (magnitude F X w) (infinity F X))

@@ -1,4 +1,4 @@
--- The limit and a reading as the float unit gets them: shaped by the code, and nobody has to believe them; the contract of `beyond_single` says what they are worth.
+-- The limit and a reading as the float unit gets them: shaped by the code, and nobody has to believe them; the contract of `is_beyond` says what they are worth.
 use Rattle.std.specs.Prelude.{cond, ℕ, suc, ◌-◌, ◌*◌, ◌^◌, ltb}
 use Rattle.meaning.specs.Readings.{magnitude, infinity}
 

@@ -10,158 +10,154 @@
 // Internal: the calls open to users are those of `beyond`.
 #![tactic(auto)]
 
-ghost use Rattle.std.specs.Prelude.{◌≡◌, true, false, ℕ, ◌-◌, ◌^◌, ◌<◌, ◌≤◌};
-ghost use Rattle.meaning.specs.Readings.{size, distance};
+ghost use Rattle.std.specs.Prelude.{◌≡◌, true, false, ℕ, ◌+◌, ◌-◌, ◌*◌, ◌^◌, ◌<◌, ◌≤◌};
+ghost use Rattle.meaning.specs.Readings.{size, infinity, distance};
 ghost use Rattle.meaning.specs.Methods.{trimmable};
 ghost use Rattle.meaning.specs.Comparing.{beyond};
 ghost use Rattle.reading_pair.specs.Limit.{limit_for, finite_or0};
+ghost use Rattle.reading_pair.specs.Widths.{narrow_single, narrow_double, infinity_single, infinity_double, sign_single, sign_double};
 
-// By how much the first number is larger; 0 where it isn't. (Written so that the compiler makes no case of its own of a limit of 0, which a loop would ask for at each place.)
-fn over(a: u64, b: u64) -> u64
-    ensures { result ≡ a - b }
-{
-    if a < b { 0 } else { a - b }
+use word::Word;
+
+// The words whose readings the float unit can take from one another.
+pub trait Near: Word {
+    // The sign's bit, and the magnitude of infinity.
+    const SIGN: u64;
+
+    ghost SIGN: { ℕ };
+
+    const INFINITY: u64;
+
+    ghost INFINITY: { ℕ };
+
+    // The magnitude with this exponent field, and no fraction.
+    fn binade(field: u64) -> Self
+        requires { field < 2 ^ Self.EXPONENT }
+        ensures { Self.value result ≡ field * 2 ^ Self.FRACTION };
+
+    // Does the float unit say that the sizes of two magnitudes lie less than the limit apart? A "no" says nothing. The difference is compared by its pattern, without its sign:
+    // so either of the two may be the larger.
+    fn near(self, other: Self, limit: Self) -> bool
+        requires { (Self.value self < infinity Self.FRACTION Self.EXPONENT) × (Self.value other < infinity Self.FRACTION Self.EXPONENT) × (Self.value limit < infinity Self.FRACTION Self.EXPONENT) }
+        ensures { result ≡ true → distance (size Self.FRACTION (Self.value self)) (size Self.FRACTION (Self.value other)) < size Self.FRACTION (Self.value limit) };
+
+    ghost sign_is: { SIGN ≡ 2 ^ (Self.FRACTION + Self.EXPONENT) };
+
+    ghost infinity_is: { INFINITY ≡ infinity Self.FRACTION Self.EXPONENT };
+
+    // A word of 64 bits holds the width.
+    ghost narrow: { (Self.FRACTION ≤ 52) × (1 < 2 ^ Self.EXPONENT) × (2 ^ Self.EXPONENT + Self.FRACTION < 4096) };
 }
 
-// The magnitude of 2^q least spacings of singles, or 0 where that is no normal number: then nothing is less, and words decide alone.
-pub fn limit_single(q: u32) -> u32
-    requires { q < 277 }
-    ensures { result ≡ limit_for 23 q }
-{
-    (over(q as u64, 22) as u32) << 23
+impl Near for u32 {
+    const SIGN: u64 = 0x8000_0000;
+
+    ghost SIGN = { 0x8000_0000 };
+
+    const INFINITY: u64 = 0x7f80_0000;
+
+    ghost INFINITY = { 0x7f80_0000 };
+
+    ghost sign_is = { sign_single };
+
+    ghost infinity_is = { infinity_single };
+
+    ghost narrow = { narrow_single };
+
+    fn binade(field: u64) -> Self {
+        (field as u32) << 23
+    }
+
+    fn near(self, other: Self, limit: Self) -> bool {
+        f32::to_bits(f32::from_bits(self) - f32::from_bits(other)) % 0x8000_0000 < limit
+    }
 }
 
-// The same of doubles.
-pub fn limit_double(q: u64) -> u64
-    requires { q < 2098 }
-    ensures { result ≡ limit_for 52 q }
-{
-    over(q, 51) << 52
+impl Near for u64 {
+    const SIGN: u64 = 0x8000_0000_0000_0000;
+
+    ghost SIGN = { 0x8000_0000_0000_0000 };
+
+    const INFINITY: u64 = 0x7ff0_0000_0000_0000;
+
+    ghost INFINITY = { 0x7ff0_0000_0000_0000 };
+
+    ghost sign_is = { sign_double };
+
+    ghost infinity_is = { infinity_double };
+
+    ghost narrow = { narrow_double };
+
+    fn binade(field: u64) -> Self {
+        field << 52
+    }
+
+    fn near(self, other: Self, limit: Self) -> bool {
+        f64::to_bits(f64::from_bits(self) - f64::from_bits(other)) % 0x8000_0000_0000_0000 < limit
+    }
 }
 
-// Does the float unit say that the sizes of two magnitudes of singles lie less than the limit apart? A "no" says nothing. The difference is compared by its pattern, without its sign:
-// so either of the two may be the larger.
-fn near_single(a: u32, b: u32, limit: u32) -> bool
-    requires { (a < 0x7f800000) × ((b < 0x7f800000) × (limit < 0x7f800000)) }
-    ensures { result ≡ true → distance (size 23 a) (size 23 b) < size 23 limit }
+// The magnitude of 2^q least spacings, or 0 where that is no normal number: then nothing is less, and words decide alone.
+pub fn limit_of<W: Near>(q: u64) -> W
+    requires { q + 2 < 2 ^ W.EXPONENT + W.FRACTION }
+    ensures { W.value result ≡ limit_for W.FRACTION q }
 {
-    f32::to_bits(f32::from_bits(a) - f32::from_bits(b)) % 0x8000_0000 < limit
+    W::binade((q + 1).saturating_sub(u64::from(W::FRACTION)))
 }
 
-// The same of doubles.
-fn near_double(a: u64, b: u64, limit: u64) -> bool
-    requires { (a < 0x7ff0000000000000) × ((b < 0x7ff0000000000000) × (limit < 0x7ff0000000000000)) }
-    ensures { result ≡ true → distance (size 52 a) (size 52 b) < size 52 limit }
+// A reading's magnitude, or 0 where it isn't finite.
+fn finite_or_zero<W: Word>(w: W) -> W
+    ensures { W.value result ≡ finite_or0 W.FRACTION W.EXPONENT (W.value w) }
 {
-    f64::to_bits(f64::from_bits(a) - f64::from_bits(b)) % 0x8000_0000_0000_0000 < limit
+    let m = w.magnitude();
+    m.finite(m, W::zero())
 }
 
-// A single's magnitude, or 0 where it isn't finite.
-fn finite_single(w: u32) -> u32
-    ensures { result ≡ finite_or0 23 8 w }
-{
-    let m = w % 0x8000_0000;
-    if 0x7f80_0000 <= m { 0 } else { m }
-}
-
-// The same of a double.
-fn finite_double(w: u64) -> u64
-    ensures { result ≡ finite_or0 52 11 w }
-{
-    let m = w % 0x8000_0000_0000_0000;
-    if 0x7ff0_0000_0000_0000 <= m { 0 } else { m }
-}
-
-// Is a pair of singles surely not beyond the limit, whatever the mark? Only signs that differ, and what is not near, are left over. What isn't finite is taken for 0: a pair with such a
+// Is a pair surely not beyond the limit, whatever the mark? Only signs that differ, and what is not near, are left over. What isn't finite is taken for 0: a pair with such a
 // reading is never beyond, and one that is missing on both sides is near, also where the mark is a NaN. So there is no branch that the processor can't predict: on where a reading
 // is missing, or on which of the two is larger.
-fn within_single(w: u32, v: u32, limit: u32) -> bool
-    requires { limit < 0x7f800000 }
-    ensures { result ≡ true → (mark q : ℕ) → size 23 limit ≤ 2 ^ q → beyond 23 8 mark q w v ≡ false }
+fn is_within<W: Near>(w: W, v: W, limit: W) -> bool
+    requires { W.value limit < infinity W.FRACTION W.EXPONENT }
+    ensures { result ≡ true → (mark q : ℕ) → size W.FRACTION (W.value limit) ≤ 2 ^ q → beyond W.FRACTION W.EXPONENT mark q (W.value w) (W.value v) ≡ false }
 {
-    if w / 0x8000_0000 != v / 0x8000_0000 {
+    if w.sign().wide() != v.sign().wide() {
         return false;
     }
-    near_single(finite_single(w), finite_single(v), limit)
+    finite_or_zero(w).near(finite_or_zero(v), limit)
 }
 
-// The same of doubles.
-fn within_double(w: u64, v: u64, limit: u64) -> bool
-    requires { limit < 0x7ff0000000000000 }
-    ensures { result ≡ true → (mark q : ℕ) → size 52 limit ≤ 2 ^ q → beyond 52 11 mark q w v ≡ false }
+// Is a reading present and finite?
+fn is_trimmable<W: Near>(w: W, mark: W) -> bool
+    ensures value { result ≡ trimmable W.FRACTION W.EXPONENT (W.value mark) (W.value w) }
+    ensures room { result ≡ true → W.value w < 2 ^ (W.FRACTION + W.EXPONENT + 1) }
 {
-    if w / 0x8000_0000_0000_0000 != v / 0x8000_0000_0000_0000 {
+    if w.wide() == mark.wide() {
         return false;
     }
-    near_double(finite_double(w), finite_double(v), limit)
+    w.magnitude().wide() < W::INFINITY
 }
 
-// Is a single present and finite?
-fn trimmable_single(w: u32, mark: u32) -> bool
-    ensures { result ≡ trimmable 23 8 mark w }
+// Is a pair beyond the limit? By words, for every pair.
+fn is_beyond_exactly<W: Near>(w: W, v: W, mark: W, q: u64) -> bool
+    requires { q + 2 < 2 ^ W.EXPONENT + W.FRACTION }
+    ensures { result ≡ beyond W.FRACTION W.EXPONENT (W.value mark) q (W.value w) (W.value v) }
 {
-    if w == mark {
+    if !is_trimmable(w, mark) {
         return false;
     }
-    w % 0x8000_0000 < 0x7f80_0000
+    if !is_trimmable(v, mark) {
+        return false;
+    }
+    reading_apart::apart(u64::from(W::FRACTION), W::SIGN, w.wide(), v.wide(), q)
 }
 
-// The same of a double.
-fn trimmable_double(w: u64, mark: u64) -> bool
-    ensures { result ≡ trimmable 52 11 mark w }
+// Are both readings present and finite, and more than 2^q least spacings apart? `limit` is that of `limit_of`.
+pub fn is_beyond<W: Near>(w: W, v: W, mark: W, q: u64, limit: W) -> bool
+    requires { (q + 2 < 2 ^ W.EXPONENT + W.FRACTION) × (W.value limit ≡ limit_for W.FRACTION q) }
+    ensures { result ≡ beyond W.FRACTION W.EXPONENT (W.value mark) q (W.value w) (W.value v) }
 {
-    if w == mark {
+    if is_within(w, v, limit) {
         return false;
     }
-    w % 0x8000_0000_0000_0000 < 0x7ff0_0000_0000_0000
-}
-
-// Is a pair of singles beyond the limit? By words, for every pair.
-fn exact_single(w: u32, v: u32, mark: u32, q: u32) -> bool
-    requires { q < 277 }
-    ensures { result ≡ beyond 23 8 mark q w v }
-{
-    if !trimmable_single(w, mark) {
-        return false;
-    }
-    if !trimmable_single(v, mark) {
-        return false;
-    }
-    reading_apart::apart(23, 0x8000_0000, w as u64, v as u64, q as u64)
-}
-
-// The same of doubles.
-fn exact_double(w: u64, v: u64, mark: u64, q: u64) -> bool
-    requires { q < 2098 }
-    ensures { result ≡ beyond 52 11 mark q w v }
-{
-    if !trimmable_double(w, mark) {
-        return false;
-    }
-    if !trimmable_double(v, mark) {
-        return false;
-    }
-    reading_apart::apart(52, 0x8000_0000_0000_0000, w, v, q)
-}
-
-// Are both singles present and finite, and more than 2^q least spacings apart? `limit` is that of `limit_single`.
-pub fn beyond_single(w: u32, v: u32, mark: u32, q: u32, limit: u32) -> bool
-    requires { (q < 277) × (limit ≡ limit_for 23 q) }
-    ensures { result ≡ beyond 23 8 mark q w v }
-{
-    if within_single(w, v, limit) {
-        return false;
-    }
-    exact_single(w, v, mark, q)
-}
-
-// The same of doubles.
-pub fn beyond_double(w: u64, v: u64, mark: u64, q: u64, limit: u64) -> bool
-    requires { (q < 2098) × (limit ≡ limit_for 52 q) }
-    ensures { result ≡ beyond 52 11 mark q w v }
-{
-    if within_double(w, v, limit) {
-        return false;
-    }
-    exact_double(w, v, mark, q)
+    is_beyond_exactly(w, v, mark, q)
 }

@@ -1,10 +1,10 @@
 -- Refused or accepted, by the laws of `Calls`.
-use Rattle.std.proofs.Common.{◌∙◌, ap, ℤ, w32, rules, ◌<◌}
+use Rattle.std.proofs.Common.{◌∙◌, ap, ℤ, w32, arith}
 use Rattle.std.proofs.lemmas.Int.{to_z-of_z}
+use Rattle.std.proofs.lemmas.List.{map-id}
 use Rattle.std.proofs.lemmas.Result.{err_from_is_err_and}
 use Rattle.meaning.specs.Questions.{accepted}
 use Rattle.asking.specs.Asked.{refusal_of}
-use Rattle.beyond.proofs.Walk.{Says, scanned, FirstTrue-weaker}
 use Rattle.beyond.proofs.Calls.{lengths_refused, limit_refused, in_range, double_limit}
 use Rattle.beyond.proofs.first_beyond_doubles.Goals as goal
 
@@ -20,25 +20,15 @@ returns-in_err-asked c =
     rw (p.1, p.2) (limit_refused 52 11 c.args.mark c.args.p c.args.raw.now c.args.trimmed.now c.in_ok-ask_lengths.ensures c.in_err-asked.field-0.0
     (e ∙ ap (λ (z : ℤ). refusal_of 52 11 5 z) (to_z-of_z w32 c.args.p c.ranges.p)))
 
-pub limit_double-limit-requires : goal.limit_double-limit-requires
-limit_double-limit-requires c =
+pub first_beyond-requires : goal.first_beyond-requires
+first_beyond-requires c =
     let a = rw (c.number.ensures, to_z-of_z w32 c.args.p c.ranges.p) at c.in_ok-asked.ensures.refusal in
     let b = rw (c.number.ensures, to_z-of_z w32 c.args.p c.ranges.p) at c.in_ok-asked.ensures.number in
-    double_limit c.args.p c.from-q.result a (c.from-q.ensures ∙ b)
-
-pub scan-requires : goal.scan-requires
-scan-requires c =
-    let a = rw (c.number.ensures, to_z-of_z w32 c.args.p c.ranges.p) at c.in_ok-asked.ensures.refusal in
-    let b = rw (c.number.ensures, to_z-of_z w32 c.args.p c.ranges.p) at c.in_ok-asked.ensures.number in
-    let q : c.from-q.result < 2098 = double_limit c.args.p c.from-q.result a (c.from-q.ensures ∙ b) in
-    let l = c.in_ok-ask_lengths.ensures in
-    λ i h. search rules
+    (c.in_ok-ask_lengths.ensures, omega (arith, double_limit c.args.p c.in_ok-asked.asked.number a b))
 
 pub returns : goal.returns
 returns c =
     let a = rw (c.number.ensures, to_z-of_z w32 c.args.p c.ranges.p) at c.in_ok-asked.ensures.refusal in
     let b = rw (c.number.ensures, to_z-of_z w32 c.args.p c.ranges.p) at c.in_ok-asked.ensures.number in
-    let l = c.in_ok-ask_lengths.ensures in
-    let s = FirstTrue-weaker (Says 52 11 c.args.mark c.from-q.result c.args.raw.now c.args.trimmed.now) c.scan.ensures (λ i b h k. search rules) in
-    ap accepted (scanned 52 11 c.args.mark c.from-q.result c.args.raw.now c.args.trimmed.now l c.scan.result s)
-    ∙ in_range 52 11 c.args.mark c.args.p c.args.raw.now c.args.trimmed.now l c.from-q.result a (c.from-q.ensures ∙ b)
+    let found = rw (map-id c.args.raw.now, map-id c.args.trimmed.now) at c.first_beyond.ensures in
+    ap accepted found ∙ in_range 52 11 c.args.mark c.args.p c.args.raw.now c.args.trimmed.now c.in_ok-ask_lengths.ensures c.in_ok-asked.asked.number a b

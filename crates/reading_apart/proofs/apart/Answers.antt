@@ -7,9 +7,9 @@ use Rattle.reading_apart.proofs.Distances.{apart_is}
 use Rattle.reading_apart.proofs.apart.Goals as goal
 
 pub far-requires : goal.far-requires
-far-requires c = (c.requires.0, (c.requires.1.0, omega (arith, c.smaller.ensures, c.larger.ensures)))
+far-requires c = (c.requires.0, (c.requires.1.0, omega (arith, c.min.ensures, c.max.ensures)))
 
 pub returns : goal.returns
 returns c X e fw fv =
     c.far.ensures
-    ∙ ap (λ (n : ℕ). ltb (2 ^ c.args.q) n) (apart_is _ X _ _ fw fv _ c.larger.result c.smaller.result e c.larger.ensures c.smaller.ensures)
+    ∙ ap (λ (n : ℕ). ltb (2 ^ c.args.q) n) (apart_is _ X _ _ fw fv _ c.max.result c.min.result e c.max.ensures c.min.ensures)

@@ -25,38 +25,38 @@ overflow_sub-x c =
     omega (arith, c.spacing_exponent-x.ensures, c.spacing_exponent-y.ensures, spacing_mono s.bits {m = s.low} {n = s.high} (search rules))
 
 pub power-requires : goal.power-requires
-power-requires c = omega (arith, few _ c.smaller-d.ensures c.requires.0)
+power-requires c = omega (arith, few _ c.min-d.ensures c.requires.0)
 
 pub overflow_sub-result : goal.overflow_sub-result
-overflow_sub-result c = omega (arith, c.power.ensures, pow_pos c.smaller-d.result)
+overflow_sub-result c = omega (arith, c.power.ensures, pow_pos c.min-d.result)
 
 pub overflow_add-result : goal.overflow_add-result
-overflow_add-result c = omega (arith, c.power.ensures, pow_mono (few _ c.smaller-d.ensures c.requires.0), c.twice_significand-v.ensures.small)
+overflow_add-result c = omega (arith, c.power.ensures, pow_mono (few _ c.min-d.ensures c.requires.0), c.twice_significand-v.ensures.small)
 
 pub overflow_shr-result : goal.overflow_shr-result
-overflow_shr-result c = omega (arith, few _ c.smaller-d.ensures c.requires.0)
+overflow_shr-result c = omega (arith, few _ c.min-d.ensures c.requires.0)
 
 pub overflow_add-result-then-opposite : goal.overflow_add-result-then-opposite
 overflow_add-result-then-opposite c =
     omega (
       arith,
       c.power.ensures,
-      pow_mono (few _ c.smaller-d.ensures c.requires.0),
+      pow_mono (few _ c.min-d.ensures c.requires.0),
       c.twice_significand-v.ensures.small,
       c.twice_significand-u.ensures.small,
-      div-le_self (c.twice_significand-v.result + (c.power.result - 1)) (2 ^ c.smaller-d.result),
+      div-le_self (c.twice_significand-v.result + (c.power.result - 1)) (2 ^ c.min-d.result),
     )
 
 pub returns-then-opposite : goal.returns-then-opposite
 returns-then-opposite c =
-    rw (c.power.ensures, c.if-opposite.true) (words_opposite _ _ _ _ (worked c.spacing_exponent-x.ensures c.spacing_exponent-y.ensures c.twice_significand-u.ensures.value c.twice_significand-v.ensures.value c.limit_at-limit.ensures.value c.smaller-d.ensures) (search rules))
+    rw (c.power.ensures, c.if-opposite.true) (words_opposite _ _ _ _ (worked c.spacing_exponent-x.ensures c.spacing_exponent-y.ensures c.twice_significand-u.ensures.value c.twice_significand-v.ensures.value c.limit_at-limit.ensures.value c.min-d.ensures) (search rules))
 
 pub overflow_shr-result-2 : goal.overflow_shr-result-2
-overflow_shr-result-2 c = omega (arith, few _ c.smaller-d.ensures c.requires.0)
+overflow_shr-result-2 c = omega (arith, few _ c.min-d.ensures c.requires.0)
 
 pub overflow_add-result-2 : goal.overflow_add-result-2
 overflow_add-result-2 c =
-    omega (arith, c.limit_at-limit.ensures.small, c.twice_significand-v.ensures.small, div-le_self c.twice_significand-v.result (2 ^ c.smaller-d.result))
+    omega (arith, c.limit_at-limit.ensures.small, c.twice_significand-v.ensures.small, div-le_self c.twice_significand-v.result (2 ^ c.min-d.result))
 
 pub returns : goal.returns
-returns c = rw c.if-opposite.false (words_same _ _ _ _ (worked c.spacing_exponent-x.ensures c.spacing_exponent-y.ensures c.twice_significand-u.ensures.value c.twice_significand-v.ensures.value c.limit_at-limit.ensures.value c.smaller-d.ensures) (search rules))
+returns c = rw c.if-opposite.false (words_same _ _ _ _ (worked c.spacing_exponent-x.ensures c.spacing_exponent-y.ensures c.twice_significand-u.ensures.value c.twice_significand-v.ensures.value c.limit_at-limit.ensures.value c.min-d.ensures) (search rules))

@@ -10,13 +10,13 @@ pub returns-then-q-exponent : goal.returns-then-q-exponent
 returns-then-q-exponent c = record { value = sym (cut_narrow _ _ _ c.if-q-exponent.true); small = zero-le }
 
 pub power-requires : goal.power-requires
-power-requires c = omega (arith, c.smaller.ensures)
+power-requires c = omega (arith, c.min.ensures)
 
 pub returns : goal.returns
 returns c =
     let p = c.power.ensures in
-    let d = c.smaller.ensures in
+    let d = c.min.ensures in
     record {
       value = p ∙ ap (λ (n : ℕ). 2 ^ n) d ∙ sym (cut_wide _ _ _ c.if-q-exponent.false);
-      small = omega (arith, p, pow_mono {i = c.smaller.result} {j = 55} (omega (arith, d)));
+      small = omega (arith, p, pow_mono {i = c.min.result} {j = 55} (omega (arith, d)));
     }
