@@ -134,7 +134,7 @@ pub fn coarse_single(m: u32, q: u32) -> Coarse<u32>
     ensures magnitude { result.magnitude ≡ new_magnitude 23 8 (absolute q) 0 m }
     ensures clipped { result.clipped ≡ cond (clips 23 8 (absolute q) m) 1 0 }
 {
-    let step = coarse_step(23, 0x7f800000, m as u64, q as u64);
+    let step = coarse_step(23, 0x7f800000, u64::from(m), u64::from(q));
     Coarse {
         magnitude: step.magnitude as u32,
         clipped: step.clipped as u32,

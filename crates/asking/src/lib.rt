@@ -76,7 +76,8 @@ fn ask(method: u32, setting: i32, limits: Limits) -> Result<Asked, Refusal>
     Ok(Asked { method, number })
 }
 
-// The questions before singles are trimmed.
+// The questions before singles are trimmed. A method comes as a number here and in the calls above: any number may be given, and whether it is a method's is the first question. Two calls of
+// a line, singles and doubles: their limits are all that differs.
 pub fn ask_single(method: u32, setting: i32) -> Result<Asked, Refusal>
     ensures refusal { refusal_in result ≡ refusal_of 23 8 method setting }
     ensures number { number_in result ≡ asked_number 23 8 method setting }

@@ -1,4 +1,4 @@
-// The interface for C and every language that calls C. An array is a pointer and a length; a call answers 0, or the refusal's number, and then writes nothing.
+// The interface for C and every language that calls C: each name has a call here, those of singles and those of doubles, with C's parameters. An array is a pointer and a length; a call answers 0, or the refusal's number, and then writes nothing.
 #![tactic(auto)]
 
 ghost use Rattle.std.specs.Prelude.{◌≡◌, map};
@@ -203,7 +203,7 @@ fn hand_totals(answer: Result<Total, Refusal>, out: &mut [u64; 2]) -> u32
 {
     match answer {
         Ok(Total { count, sum }) => {
-            *out = [count as u64, sum as u64];
+            *out = [u64::from(count), u64::from(sum)];
             0
         }
         Err(refusal) => refusal.number(),

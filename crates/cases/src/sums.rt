@@ -17,8 +17,8 @@ impl Summed {
         match answer {
             Ok(total) => Summed {
                 refusal: None,
-                count: Some(total.count as u64),
-                sum: Some(total.sum as u64),
+                count: Some(u64::from(total.count)),
+                sum: Some(u64::from(total.sum)),
             },
             Err(refusal) => Summed {
                 refusal: Some(refusal.number()),

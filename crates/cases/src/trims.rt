@@ -143,7 +143,7 @@ pub fn loader(out: &mut Printer<'_, impl Print>, row: Row<'_>) -> bool {
     out.judge(row, got == expected)
 }
 
-// One double, with a NaN for the mark.
+// One double, with a NaN for the mark. Not one function with `one_single`: that asks the loader too, and has other columns.
 pub fn double(out: &mut Printer<'_, impl Print>, row: Row<'_>) -> bool {
     let call = row.call(2);
     let x = row.hex(4);
@@ -176,7 +176,7 @@ pub fn asked(out: &mut Printer<'_, impl Print>, row: Row<'_>) -> bool {
     out.answered(row, expected, number_of(answer), ok)
 }
 
-// The same for doubles.
+// The same for doubles, which have no loader's call.
 pub fn asked_double(out: &mut Printer<'_, impl Print>, row: Row<'_>) -> bool {
     let call = row.call(2);
     let expected = row.refusal(6);

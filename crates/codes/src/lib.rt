@@ -1,5 +1,5 @@
 // The codes of a layer with two different values or more, exact whatever the exponents, and the least step that holds its span: all in words of 64 bits. Internal:
-// the call open to users is packing's.
+// the call open to users is packing's. The readings, the mark and the codes stay parameters beside the layer: they are the arrays of packing's call. Casts are proved to lose nothing.
 #![tactic(auto)]
 
 ghost use Rattle.std.specs.Prelude.{◌≡◌, ◌+◌, ◌-◌, ◌*◌, ◌/◌, ◌%◌, ◌^◌, ◌<◌, ◌≤◌, ◌≢◌, map, length, nat_le, slice_index, EachIndex};

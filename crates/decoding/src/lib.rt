@@ -1,5 +1,5 @@
 // How a code becomes a double: the code as a double, times its layer's step, plus the layer's reference, so that only the addition rounds. One code, and one layer.
-// Internal: the call open to users is unpacking's.
+// Internal: the call open to users is unpacking's. The `as` here are exact, and the laws of floats name them; a `From` for each code is no plainer.
 #![tactic(auto)]
 
 ghost use Rattle.std.specs.Prelude.{◌≡◌, true, map, ◌^◌, ◌≤◌, length};

@@ -61,12 +61,12 @@ pub fn double_tail(table: &[u64; 633], m: u64, n: u32) -> u32
     j.saturating_sub(c)
 }
 
-// The double of the same size as a subnormal single: doubled until it is as long as a normal one.
+// The double of the same size as a subnormal single: doubled until it is as long as a normal one. No count of places, so no `for`.
 fn subnormal_widened(m: u32) -> u64
     requires { (0 < m) × (m < 0x80_0000) }
     ensures { (0 < result) × (result < 0x7ff0_0000_0000_0000) × (size 52 result ≡ size 23 m * 2 ^ (least_exp 52 11 - least_exp 23 8)) }
 {
-    let mut x = m as u64;
+    let mut x = u64::from(m);
     let mut f: u64 = 896;
     while x < 0x80_0000 {
         x = x * 2;
@@ -83,9 +83,10 @@ fn widened(m: u32) -> u64
     if m < 0x80_0000 {
         return subnormal_widened(m);
     }
-    (m as u64) * 0x2000_0000 + 0x3800_0000_0000_0000
+    u64::from(m) * 0x2000_0000 + 0x3800_0000_0000_0000
 }
 
+// Beside the double's a function of its own: a single goes by the double of its size, and its spacings are others.
 // How many last bits of a single the method changes when it keeps n digits; 0 says that the reading stays.
 pub fn single_tail(table: &[u64; 633], m: u32, n: u32) -> u32
     requires { (0 < m) × (m < 0x7f80_0000) × (1 ≤ n) × (n ≤ 7) × (table.now ≡ powers) }

@@ -1,5 +1,6 @@
 // The fields of a line of trimlist's text, read at places of slices, byte by byte: a pattern, a word or a name, a setting, and the byte that follows a field.
 // A reader answers what stands from a place on, or none where it doesn't have the form.
+// A slice and a place, and not what is left of the slice: `listing` cuts its output from the text by places. A number has at most four digits, so `as` loses nothing.
 // Internal: `text_in` reads whole lines with them. Which method a word names is in `method_word`.
 #![tactic(auto)]
 

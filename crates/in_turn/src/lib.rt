@@ -38,7 +38,7 @@ pub fn in_turn_singles(readings: &mut [u32], methods: &[u32], settings: &[i32], 
     run_singles(readings, methods, settings, mark);
 }
 
-// The same for doubles.
+// The same for doubles: a call of its own, as each width has its own statement.
 pub fn in_turn_doubles(readings: &mut [u64], methods: &[u32], settings: &[i32], mark: u64)
     ensures content { readings.new ≡ in_turn 52 11 (calls_of methods.now settings.now) mark readings.old }
     ensures promised { Promised 52 11 (calls_of methods.now settings.now) mark readings.old readings.new }

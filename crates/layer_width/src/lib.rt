@@ -1,4 +1,5 @@
-// What a layer's width says of its codes: the steps that they can take, and the code that means missing. Internal: the calls open to users ask that a width is 2 to 16.
+// What a layer's width says of its codes: the steps that they can take, and the code that means missing. Two functions, since the one is a code and the other a count in a wider word;
+// the cast is proved to lose nothing, where a `try_from` would add a test. Internal: the calls open to users ask that a width is 2 to 16.
 #![tactic(auto)]
 
 ghost use Rattle.std.specs.Prelude.{◌≡◌, ◌≤◌};

@@ -1,4 +1,5 @@
-// How one layer of singles is packed: its reference, its step, and a code of its width for each reading. Internal: the call open to users is packing's.
+// How one layer of singles is packed: its reference, its step, and a code of its width for each reading. Internal: the call open to users is packing's. Its
+// functions have the arrays of packing's call, and say the same of them; the cast of an exponent is proved to lose nothing.
 #![tactic(auto)]
 
 ghost use Rattle.std.specs.Prelude.{◌≡◌, map, ◌≤◌, length};

@@ -8,7 +8,7 @@ ghost use Rattle.method_word.specs.Words.{named_number};
 
 use method::Method;
 
-// Are the bytes the word's?
+// Are the bytes the word's? A function of its own, since `==` of a slice with an array's literal is refused.
 #[tactic(auto, using(crate::proofs::WordLaws::same_bytes))]
 fn word_is(bytes: &[u8], word: &[u8]) -> bool
     ensures { result ≡ same_word bytes.now word.now }
@@ -16,7 +16,7 @@ fn word_is(bytes: &[u8], word: &[u8]) -> bool
     bytes == word
 }
 
-// The method whose word is the n bytes from `at` on, or none where it is no method's.
+// The method whose word is the n bytes from `at` on, or none where it is no method's. A test for each word: a `match` on the bytes left some fifty goals open.
 #[tactic(auto, unfolding(form::specs::Output::method_number, form::specs::Output::method_words, form::specs::Output::place_of, form::specs::Form::bytes))]
 pub fn method_of(s: &[u8], at: usize, n: usize) -> Option<Method>
     requires { at + n ≤ length s.now }

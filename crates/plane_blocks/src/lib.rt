@@ -123,7 +123,7 @@ pub fn by_method<W: InPlanes, const MIDDLE: usize, const LONG: usize>(
     number: u32,
     mark: W,
 ) -> Totals
-    requires { (Fitting (number_of method) number W.FRACTION W.DIGITS) × (length planes.old ≡ n * W.BYTES) }
+    requires fitting { (Fitting (number_of method) number W.FRACTION W.DIGITS) × (length planes.old ≡ n * W.BYTES) }
     requires rooms { ((1 ≤ MIDDLE) × (MIDDLE ≤ 16384)) × ((1 ≤ LONG) × (LONG ≤ 16384)) }
     ensures sums { totals_of result ≡ tallied_by (turn_after W.FRACTION W.EXPONENT (W.value mark)) (settled_by W.FRACTION W.EXPONENT (method_by (number_of method) number) (W.value mark)) 0 (P.readings W.BYTES n planes.old) }
     ensures content { planes.new ≡ P.planes W.BYTES (walked_by (turn_after W.FRACTION W.EXPONENT (W.value mark)) (settled_by W.FRACTION W.EXPONENT (method_by (number_of method) number) (W.value mark)) 0 (P.readings W.BYTES n planes.old)) }

@@ -59,7 +59,13 @@ pub fn trim_planes_singles(
 {
     let asked = asking::ask_single(method, setting)?;
     ask_planes(planes.len(), 4, n)?;
-    let sums = plane_blocks::by_method::<u32, 4096, 16384>(planes, n, asked.method, asked.number, mark);
+    let sums = plane_blocks::by_method::<u32, 4096, 16384>(
+        planes,
+        n,
+        asked.method,
+        asked.number,
+        mark,
+    );
     Ok(Counts::from(sums))
 }
 
@@ -102,6 +108,12 @@ pub fn trim_planes_doubles(
 {
     let asked = asking::ask_double(method, setting)?;
     ask_planes(planes.len(), 8, n)?;
-    let sums = plane_blocks::by_method::<u64, 2048, 8192>(planes, n, asked.method, asked.number, mark);
+    let sums = plane_blocks::by_method::<u64, 2048, 8192>(
+        planes,
+        n,
+        asked.method,
+        asked.number,
+        mark,
+    );
     Ok(Counts::from(sums))
 }

@@ -8,7 +8,7 @@ ghost use Rattle.meaning.specs.Layers.{summary};
 ghost use Rattle.summary.specs.Keys.{key, unkey, lowest, highest, between, Key};
 ghost use Rattle.summary.specs.Summaries.{summary_of, Packable};
 
-// Each value is held as a single. A zero is +0.
+// The three kinds that the definitions have: none of them is the lack of another, so no `Option`. Each value is held as a single. A zero is +0.
 #[derive(Clone, Copy)]
 pub enum Summary {
     Nothing,

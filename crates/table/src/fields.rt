@@ -31,7 +31,7 @@ pub fn number(s: &[u8], base: u64) -> u64
     for byte in s {
         if *byte != b' ' {
             let digit = fields_in::digit(*byte).unwrap_or(0);
-            value = value % 0x1000_0000_0000_0000 * base + digit as u64;
+            value = value % 0x1000_0000_0000_0000 * base + u64::from(digit);
         }
     }
     value
@@ -157,7 +157,7 @@ impl<'a> Row<'a> {
         self.single(k)
     }
 
-    // A double mark, or a NaN where none is named.
+    // A double mark, or a NaN where none is named: another default than a single's.
     pub fn mark_double(self, k: usize) -> u64 {
         if self.is_empty(k) {
             return MARK_DOUBLE;

@@ -1,5 +1,6 @@
 // The text of trimlist, written at places of slices. A writer lays bytes over a slice from a place on. Lines of values come from a work area of 8 parts of 512, one for
 // each series, as `text_in` fills it.
+// A buffer of fixed length and a place, since no call has memory of its own; the casts are of digits.
 // Internal: `listing` is made of them, and of the readers in `text_in`.
 #![tactic(auto)]
 

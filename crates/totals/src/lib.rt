@@ -45,7 +45,7 @@ fn count_present(codes: &[u16], missing: u16) -> u32
     let half = codes.len() / 2;
     let first = count_half(&codes[0..half], missing);
     let second = count_half(&codes[half..], missing);
-    first as u32 + second as u32
+    u32::from(first) + u32::from(second)
 }
 
 // The code, or 0 where it is the missing one.
@@ -54,7 +54,7 @@ fn if_present(code: u16, missing: u16) -> u32
     ensures is { result ≡ if_present missing code }
     ensures small { result ≤ 65535 }
 {
-    if code == missing { 0 } else { code as u32 }
+    if code == missing { 0 } else { u32::from(code) }
 }
 
 // The code at a place, or the missing one past the end.

@@ -4,7 +4,7 @@ use Rattle.digit_tails.proofs.Singles.{start, room, turn, finish}
 use Rattle.digit_tails.proofs.subnormal_widened.Goals as goal
 
 pub loop-x-init : goal.loop-x-init
-loop-x-init c = start c.args.m c.requires.0 c.requires.1
+loop-x-init c = rw c.from-x.ensures (start c.args.m c.requires.0 c.requires.1)
 
 pub overflow_sub-f : goal.overflow_sub-f
 overflow_sub-f c = omega (arith, room _ _ _ c.loop-x.invariant)

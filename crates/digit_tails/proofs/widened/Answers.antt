@@ -10,4 +10,4 @@ pub returns-then-m-lt8388608 : goal.returns-then-m-lt8388608
 returns-then-m-lt8388608 c = c.subnormal_widened.ensures
 
 pub returns : goal.returns
-returns c = (omega arith, omega arith, normal_widened c.args.m c.if-m-lt8388608.false)
+returns c = (omega (arith, c.from.ensures), omega (arith, c.from.ensures), rw c.from.ensures (normal_widened c.args.m c.if-m-lt8388608.false))
