@@ -112,10 +112,31 @@ fn blocks_of<W: InPlanes, const N: usize>(
     number: u32,
     mark: W,
 ) -> Totals
-    requires { (Fitting (number_of method) number W.FRACTION W.DIGITS) × (1 ≤ N) × (length planes.old ≡ n * W.BYTES) }
+    requires { (Fitting (number_of method) number W.FRACTION W.DIGITS) × ((1 ≤ N) × (N ≤ 16384)) × (length planes.old ≡ n * W.BYTES) }
     ensures sums { totals_of result ≡ tallied_by (turn_after W.FRACTION W.EXPONENT (W.value mark)) (settled_by W.FRACTION W.EXPONENT (method_by (number_of method) number) (W.value mark)) 0 (P.readings W.BYTES n planes.old) }
     ensures content { planes.new ≡ P.planes W.BYTES (walked_by (turn_after W.FRACTION W.EXPONENT (W.value mark)) (settled_by W.FRACTION W.EXPONENT (method_by (number_of method) number) (W.value mark)) 0 (P.readings W.BYTES n planes.old)) }
 {
     let mut room = [W::zero(); N];
     blocks(planes, n, &mut room, arrays::job_of(method, number), mark)
+}
+
+// Readings by a method with a setting that is in its range. A long array goes by long blocks, so that what is worked out once for a block costs less. A short one has no large room to clear.
+pub fn by_method<W: InPlanes>(
+    planes: &mut [u8],
+    n: usize,
+    method: Method,
+    number: u32,
+    mark: W,
+) -> Totals
+    requires { (Fitting (number_of method) number W.FRACTION W.DIGITS) × (length planes.old ≡ n * W.BYTES) }
+    ensures sums { totals_of result ≡ tallied_by (turn_after W.FRACTION W.EXPONENT (W.value mark)) (settled_by W.FRACTION W.EXPONENT (method_by (number_of method) number) (W.value mark)) 0 (P.readings W.BYTES n planes.old) }
+    ensures content { planes.new ≡ P.planes W.BYTES (walked_by (turn_after W.FRACTION W.EXPONENT (W.value mark)) (settled_by W.FRACTION W.EXPONENT (method_by (number_of method) number) (W.value mark)) 0 (P.readings W.BYTES n planes.old)) }
+{
+    if n <= 512 {
+        return blocks_of::<W, 512>(planes, n, method, number, mark);
+    }
+    if 16384 < n {
+        return blocks_of::<W, 8192>(planes, n, method, number, mark);
+    }
+    blocks_of::<W, 2048>(planes, n, method, number, mark)
 }
