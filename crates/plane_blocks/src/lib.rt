@@ -79,13 +79,7 @@ fn block<W: InPlanes>(
 }
 
 // All blocks.
-fn blocks<W: InPlanes>(
-    planes: &mut [u8],
-    n: usize,
-    room: &mut [W],
-    job: Job<W>,
-    mark: W,
-) -> Totals
+fn blocks<W: InPlanes>(planes: &mut [u8], n: usize, room: &mut [W], job: Job<W>, mark: W) -> Totals
     requires { (Suits W.FRACTION W.DIGITS (number_of job.method) job.n (constants_at W.value job.tail)) × (1 ≤ length room.old) × (length planes.old ≡ n * W.BYTES) }
     ensures sums { totals_of result ≡ tallied_by (next_with W.FRACTION W.EXPONENT (number_of job.method) job.n (W.value mark)) (settled_with W.FRACTION W.EXPONENT (number_of job.method) job.n (W.value mark)) 0 (P.readings W.BYTES n planes.old) }
     ensures content { planes.new ≡ P.planes W.BYTES (walked_by (next_with W.FRACTION W.EXPONENT (number_of job.method) job.n (W.value mark)) (settled_with W.FRACTION W.EXPONENT (number_of job.method) job.n (W.value mark)) 0 (P.readings W.BYTES n planes.old)) }

@@ -1,6 +1,5 @@
 -- Read, trimmed and written back.
-use Rattle.std.proofs.Common.{length, ◌∙◌, ap}
-use mathlib.Core.List.{map}
+use Rattle.std.proofs.Common.{length}
 use Rattle.std.proofs.lemmas.List.{length-map}
 use Rattle.method.specs.Kinds.{number_of}
 use Rattle.loops.specs.Methods.{settled_with, next_with}

@@ -1,5 +1,5 @@
 -- Block after block.
-use Rattle.std.proofs.Common.{◌≡◌, ℕ, ◌+◌, length, refl, sym, ◌∙◌, arith, rules}
+use Rattle.std.proofs.Common.{◌+◌, refl, arith}
 use mathlib.Core.Logic.{inl}
 use lib.ListN.{length-append, length-take, length-drop}
 use Rattle.method.specs.Kinds.{number_of}

@@ -1,5 +1,5 @@
 -- The method's walk from the first turn on.
-use Rattle.std.proofs.Common.{refl, ◌∙◌, ap, arith, rules}
+use Rattle.std.proofs.Common.{ap}
 use Rattle.method.specs.Kinds.{number_of}
 use Rattle.plane_blocks.proofs.Trimming.{by_method}
 use Rattle.plane_blocks.proofs.blocks_of.Goals as goal

@@ -5,6 +5,7 @@ use Rattle.std.proofs.lemmas.Result.{err_from_is_err_and}
 use Rattle.meaning.specs.Questions.{accepted}
 use Rattle.meaning.specs.Planes.{readings}
 use Rattle.asking.specs.Asked.{refusal_of}
+use Rattle.method.specs.Kinds.{number_of}
 use Rattle.loops.specs.Tallies.{totals_of}
 use Rattle.trim.proofs.Calls.{double_fitting, fewer_sums}
 use Rattle.planes.proofs.Calls.{refused_early, refused_late, accepted_planes}
@@ -27,20 +28,20 @@ returns-in_err-ask_planes c =
     let it = refused_late 8 52 11 c.args.method c.args.setting c.args.mark c.args.n c.args.planes.now c.args.method c.in_ok-asked.asked.number refl e m c.in_err-ask_planes.ensures.1 in
     rw (p.1, p.2, c.in_err-ask_planes.ensures.0) record { answer = it.0; content = it.1 }
 
-pub method_doubles-sums-requires : goal.method_doubles-sums-requires
-method_doubles-sums-requires c =
+pub by_method-sums-requires : goal.by_method-sums-requires
+by_method-sums-requires c =
     let a = c.in_ok-asked.ensures in
     let e = simp (to_z-of_z w32 c.args.setting c.ranges.setting) at a.refusal in
     let m = simp (to_z-of_z w32 c.args.setting c.ranges.setting) at a.number in
-    (double_fitting c.args.method c.args.setting c.number.result c.in_ok-asked.asked.number (c.number.ensures ∙ a.method) e m, c.in_ok-ask_planes.ensures)
+    (double_fitting c.args.method c.args.setting (number_of c.in_ok-asked.asked.method) c.in_ok-asked.asked.number a.method e m, c.in_ok-ask_planes.ensures)
 
 pub counted-requires : goal.counted-requires
 counted-requires c =
     let a = c.in_ok-asked.ensures in
     let e = simp (to_z-of_z w32 c.args.setting c.ranges.setting) at a.refusal in
     let m = simp (to_z-of_z w32 c.args.setting c.ranges.setting) at a.number in
-    let sums = c.method_doubles-sums in
-    fewer_sums 52 11 c.args.method c.args.setting c.number.result c.in_ok-asked.asked.number (c.number.ensures ∙ a.method) e m
+    let sums = c.by_method-sums in
+    fewer_sums 52 11 c.args.method c.args.setting (number_of c.in_ok-asked.asked.method) c.in_ok-asked.asked.number a.method e m
     c.args.mark (readings 8 c.args.n c.args.planes.now) (totals_of sums.result) sums.ensures.sums
 
 pub returns : goal.returns
@@ -48,7 +49,7 @@ returns c =
     let a = c.in_ok-asked.ensures in
     let e = simp (to_z-of_z w32 c.args.setting c.ranges.setting) at a.refusal in
     let m = simp (to_z-of_z w32 c.args.setting c.ranges.setting) at a.number in
-    let sums = c.method_doubles-sums in
-    let call = accepted_planes 8 52 11 c.args.method c.args.setting c.args.mark c.args.n c.args.planes.now c.number.result c.in_ok-asked.asked.number (c.number.ensures ∙ a.method) e m
+    let sums = c.by_method-sums in
+    let call = accepted_planes 8 52 11 c.args.method c.args.setting c.args.mark c.args.n c.args.planes.now (number_of c.in_ok-asked.asked.method) c.in_ok-asked.asked.number a.method e m
     c.in_ok-ask_planes.ensures (totals_of sums.result) sums.ensures.sums sums.new.planes sums.ensures.content in
     record { answer = ap accepted c.counted.ensures ∙ call.0; content = call.1 }
