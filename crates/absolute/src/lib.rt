@@ -32,7 +32,8 @@ pub fn fine_single(m: u32, q: u32) -> u32
     if m < start { rounded } else { m }
 }
 
-// The same of a double.
+// The same of a double. The two stay two: f32 and f64 share no trait that says what from_bits, to_bits and a sum give, so a function for both would need each of its lines as
+// a method with two impls.
 pub fn fine_double(m: u64, q: u64) -> u64
     requires { (m < 0x7ff0000000000000) × (53 ≤ q) × (q ≤ 2044) }
     ensures { result ≡ new_magnitude 52 11 (absolute q) 0 m }
@@ -140,7 +141,8 @@ pub fn coarse_single(m: u32, q: u32) -> Coarse<u32>
     }
 }
 
-// The same of a double.
+// The same of a double. Both are a call of `coarse_step`: a function for both would need infinity and the narrowing of a result as methods with two impls, which is no
+// plainer.
 pub fn coarse_double(m: u64, q: u64) -> Coarse<u64>
     requires { m < 0x7ff0000000000000 }
     ensures magnitude { result.magnitude ≡ new_magnitude 52 11 (absolute q) 0 m }

@@ -1,5 +1,5 @@
-// What singles alone have: which of them are subnormal, and method 6 by the tables of the exponent fields. What is done to a reading of either width is `word::one`. Everything is computed first
-// and chosen last, so that a loop over these functions has no branch on the data. Internal: the calls open to users are those of `trim`.
+// What singles alone have: which of them are subnormal, and method 6 by the tables of the exponent fields. What is done to a reading of either width is `word::one`.
+// Everything is computed first and chosen last, so that a loop over these functions has no branch on the data. Internal: the calls open to users are those of `trim`.
 #![tactic(auto)]
 
 ghost use Rattle.std.specs.Prelude.{◌≡◌, ◌≤◌, if◌then◌else◌, nat_lt};

@@ -1,5 +1,5 @@
-// The words that readings are stored in: of 32 bits for singles, of 64 for doubles. Whatever is done to an array, and to one reading (`one`), is written once, for every such word; only what
-// differs by width stands in the two impls. Internal: the calls open to users are those of `trim` and `planes`.
+// The words that readings are stored in: of 32 bits for singles, of 64 for doubles. Whatever is done to an array, and to one reading (`one`), is written once, for every such
+// word; only what differs by width stands in the two impls. Internal: the calls open to users are those of `trim` and `planes`.
 #![tactic(auto)]
 
 ghost use Rattle.std.specs.Prelude.{◌≡◌, ℕ, false, ◌+◌, ◌-◌, ◌/◌, ◌%◌, ◌^◌, ◌<◌, ◌≤◌, if◌then◌else◌, nat_eq, nat_lt};
@@ -9,7 +9,7 @@ ghost use Rattle.std.proofs.Common.{rules};
 ghost use Rattle.meaning.specs.Readings.{sign, magnitude, infinity};
 ghost use Rattle.meaning.specs.Methods.{round, absolute, digits, halfshaved, clips, new_magnitude};
 ghost use Rattle.powers.specs.Table.{powers};
-ghost use Rattle.reading.specs.Left.{unless_missing, left_from, settled_by, settled_tail, takes, over};
+ghost use Rattle.reading.specs.Left.{unless_missing, left_from, settled_by, settled_tail, takes};
 ghost use Rattle.reading.specs.Tails.{constants, TailOf};
 ghost use Rattle.reading.specs.Words.{settled_at, constants_at};
 ghost use Rattle.word.specs.Widths.{one_finite_single, one_finite_double};
@@ -19,8 +19,8 @@ use reading::{Tail, Trimmed};
 
 pub mod one;
 
-// What is left of a reading by its new pattern: the new pattern, or the reading itself where it is missing; the pattern that is left, which is the reading too where the former is the mark; and
-// what the reading loses by that, a difference that wraps around.
+// What is left of a reading by its new pattern: the new pattern, or the reading itself where it is missing; the pattern that is left, which is the reading too where the
+// former is the mark; and what the reading loses by that, a difference that wraps around.
 #[derive(Clone, Copy)]
 pub struct Left<W> {
     pub wanted: W,
@@ -61,16 +61,6 @@ pub trait Word: Copy + Drop {
     fn wide(self) -> u64
         ensures { result ≡ value self };
 
-    // The sum of two counts.
-    fn plus(self, more: Self) -> Self
-        requires { value self + value more < 2 ^ 32 }
-        ensures { value result ≡ value self + value more };
-
-    // The bit of row r.
-    fn bit(r: u32) -> Self
-        requires { r ≤ 31 }
-        ensures { value result ≡ 2 ^ r };
-
     fn and(self, other: Self) -> Self
         ensures { value result ≡ bit_and (value self) (value other) };
 
@@ -83,16 +73,12 @@ pub trait Word: Copy + Drop {
 
     // 2^t, and the word by that.
     fn unit(t: u32) -> Self
-        requires { t ≤ FRACTION }
+        requires { t ≤ FRACTION + EXPONENT }
         ensures { value result ≡ 2 ^ t };
 
     fn shifted(self, t: u32) -> Self
-        requires { t ≤ FRACTION }
+        requires { t ≤ FRACTION + EXPONENT }
         ensures { value result ≡ value self / 2 ^ t };
-
-    // Half the word, rounded down.
-    fn half(self) -> Self
-        ensures { value result ≡ value self / 2 };
 
     fn sum(self, more: Self) -> Self
         requires { value self + value more < 2 ^ (FRACTION + EXPONENT + 1) }
@@ -143,6 +129,22 @@ pub trait Word: Copy + Drop {
     fn digits_tail(self, table: &[u64; 633], n: u32) -> u32
         requires { (0 < value self) × (value self < infinity FRACTION EXPONENT) × (1 ≤ n) × (n ≤ DIGITS) × (table.now ≡ powers) }
         ensures { (result ≤ FRACTION) × (new_magnitude FRACTION EXPONENT (digits n) 0 (value self) ≡ halfshaved result (value self)) };
+
+    // The sum of two counts.
+    final fn plus(self, more: Self) -> Self
+        requires { value self + value more < 2 ^ 32 }
+        ensures { value result ≡ value self + value more }
+    {
+        self.sum(more)
+    }
+
+    // The bit of row r.
+    final fn bit(r: u32) -> Self
+        requires { r ≤ 31 }
+        ensures { value result ≡ 2 ^ r }
+    {
+        Self::unit(r)
+    }
 
     // `bit` where a reading takes a turn when an array is groomed; 0 where it is missing or isn't finite.
     final fn turn(self, bit: Self, mark: Self) -> Self
@@ -198,13 +200,15 @@ pub trait Word: Copy + Drop {
         one::with_digits(self, table, n, mark)
     }
 
-    // One is a finite magnitude.
-    ghost one_finite: { 1 < infinity FRACTION EXPONENT };
+    // A word has at least 32 bits, and at most 8 bytes, so that an array of 513 of them may be lent. One is a finite magnitude.
+    ghost bits: { 31 ≤ FRACTION + EXPONENT };
 
-    // A word has at most 8 bytes, so that an array of 513 of them may be lent.
     ghost narrow: { type_size Self.row ≤ 8 };
+
+    ghost one_finite: { 1 < infinity FRACTION EXPONENT };
 }
 
+// The two impls say the same operators of two types: each is one line, and no macro may write an impl.
 impl Word for u32 {
     const FRACTION: u32 = 23;
 
@@ -224,6 +228,8 @@ impl Word for u32 {
 
     ghost value = { λ w. w };
 
+    ghost bits = { Prim.search rules };
+
     ghost narrow = { Prim.search rules };
 
     ghost one_finite = { one_finite_single };
@@ -240,14 +246,6 @@ impl Word for u32 {
         u64::from(self)
     }
 
-    fn plus(self, more: Self) -> Self {
-        self + more
-    }
-
-    fn bit(r: u32) -> Self {
-        1 << r
-    }
-
     fn and(self, other: Self) -> Self {
         self & other
     }
@@ -261,15 +259,11 @@ impl Word for u32 {
     }
 
     fn unit(t: u32) -> Self {
-        1 << t
+        1u32 << t
     }
 
     fn shifted(self, t: u32) -> Self {
         self >> t
-    }
-
-    fn half(self) -> Self {
-        self / 2
     }
 
     fn sum(self, more: Self) -> Self {
@@ -345,6 +339,8 @@ impl Word for u64 {
 
     ghost value = { λ w. w };
 
+    ghost bits = { Prim.search rules };
+
     ghost narrow = { Prim.search rules };
 
     ghost one_finite = { one_finite_double };
@@ -361,14 +357,6 @@ impl Word for u64 {
         self
     }
 
-    fn plus(self, more: Self) -> Self {
-        self + more
-    }
-
-    fn bit(r: u32) -> Self {
-        1 << r
-    }
-
     fn and(self, other: Self) -> Self {
         self & other
     }
@@ -382,15 +370,11 @@ impl Word for u64 {
     }
 
     fn unit(t: u32) -> Self {
-        1 << t
+        1u64 << t
     }
 
     fn shifted(self, t: u32) -> Self {
         self >> t
-    }
-
-    fn half(self) -> Self {
-        self / 2
     }
 
     fn sum(self, more: Self) -> Self {

@@ -1,4 +1,5 @@
-// One reading: the pattern that is left of it and what it counts for, by each method. Everything is computed first and chosen last, so that a loop over these functions has no branch on the data.
+// One reading: the pattern that is left of it and what it counts for, by each method. Everything is computed first and chosen last, so that a loop over these functions has no
+// branch on the data.
 
 ghost use Rattle.std.specs.Prelude.{◌≡◌, ◌+◌, ◌-◌, ◌^◌, ◌<◌, ◌≤◌};
 ghost use Rattle.std.specs.Int.Bits.{bit_and};
@@ -64,7 +65,7 @@ pub fn tail_of<W: Word>(k: u32) -> Tail<W>
     Tail {
         bits: t,
         ones,
-        half: unit.half(),
+        half: unit.shifted(1),
     }
 }
 
