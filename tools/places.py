@@ -30,11 +30,36 @@ def enums_like_option():
 
 
 def functions():
-    """Crate, name and clauses of each function."""
+    """Crate, name and head of each function: all up to its body, or to the semicolon of a trait's."""
     for path in FILES:
-        text = '\n'.join(code_of(path))
-        for found in re.finditer(r'\bfn (\w+)([^{;]*(?:\{[^{}]*\}[^{;]*)*)', text):
-            yield path, found[1], found[2]
+        lines = code_of(path)
+        for number, line in enumerate(lines):
+            found = re.search(r'\bfn (\w+)', line)
+            if not found:
+                continue
+            head = []
+            for text in lines[number:]:
+                head.append(text)
+                if text.strip() == '{' or text.rstrip().endswith((' {', ';', '{}')):
+                    break
+            yield path, found[1], '\n'.join(head)
+
+
+def facts_of(clause):
+    """The facts that a clause joins by ×, without the brackets around them."""
+    depth, part, parts = 0, '', []
+    for char in clause:
+        depth += (char in '([{') - (char in ')]}')
+        if char == '×' and depth == 0:
+            parts.append(part)
+            part = ''
+        else:
+            part += char
+    parts = [p.strip() for p in parts + [part]]
+    if len(parts) == 1:
+        inner = parts[0]
+        return facts_of(inner[1:-1]) if inner.startswith('(') and inner.endswith(')') and inner.count('(') and '×' in inner else [inner]
+    return [fact for p in parts for fact in facts_of(p)]
 
 
 def twins():
@@ -53,14 +78,15 @@ def twins():
 
 
 def repeated_facts():
-    """Clauses that three or more functions of one crate have word for word, once each."""
+    """Facts that three or more functions of one crate require or ensure word for word, once each."""
     seen = defaultdict(set)
-    for path, name, rest in functions():
-        for clause in re.findall(r'(?:requires|ensures)[ \w]*\{\s*(.*?)\s*\}', rest, re.S):
-            seen[path.parts[-3], re.sub(r'\s+', ' ', clause)].add(name)
-    for (crate, clause), names in sorted(seen.items()):
+    for path, name, head in functions():
+        for clause in re.findall(r'(?:requires|ensures)[ \w]*\{\s*(.*?)\s*\}(?=\s*(?:requires|ensures|\{|;|$))', head, re.S):
+            for fact in facts_of(re.sub(r'\s+', ' ', clause)):
+                seen[path.parts[-3], fact].add(name)
+    for (crate, fact), names in sorted(seen.items()):
         if len(names) > 2:
-            yield f'{crate}: {len(names)} functions: {clause[:100]}'
+            yield f'{crate}: {len(names)} functions: {fact[:100]}'
 
 
 def long_lists():

@@ -115,8 +115,7 @@ fn blocks_of<W: InPlanes, const N: usize>(
 }
 
 // Readings by a method with a setting that is in its range. A long array goes by long blocks, so that what is worked out once for a block costs less. A short one has no large room to clear.
-// The lengths are the caller's to say: as many bytes for singles as for doubles.
-pub fn by_method<W: InPlanes, const MIDDLE: usize, const LONG: usize>(
+fn by_method<W: InPlanes, const MIDDLE: usize, const LONG: usize>(
     planes: &mut [u8],
     n: usize,
     method: Method,
@@ -135,4 +134,21 @@ pub fn by_method<W: InPlanes, const MIDDLE: usize, const LONG: usize>(
         return blocks_of::<W, LONG>(planes, n, method, number, mark);
     }
     blocks_of::<W, MIDDLE>(planes, n, method, number, mark)
+}
+
+// Two calls of a line: a block of singles and one of doubles have as many bytes, and the length of an array can't be computed from a type.
+pub fn method_singles(planes: &mut [u8], n: usize, method: Method, number: u32, mark: u32) -> Totals
+    requires { (Fitting (number_of method) number 23 7) × (length planes.old ≡ n * 4) }
+    ensures sums { totals_of result ≡ tallied_by (turn_after 23 8 mark) (settled_by 23 8 (method_by (number_of method) number) mark) 0 (P.readings 4 n planes.old) }
+    ensures content { planes.new ≡ P.planes 4 (walked_by (turn_after 23 8 mark) (settled_by 23 8 (method_by (number_of method) number) mark) 0 (P.readings 4 n planes.old)) }
+{
+    by_method::<u32, 4096, 16384>(planes, n, method, number, mark)
+}
+
+pub fn method_doubles(planes: &mut [u8], n: usize, method: Method, number: u32, mark: u64) -> Totals
+    requires { (Fitting (number_of method) number 52 15) × (length planes.old ≡ n * 8) }
+    ensures sums { totals_of result ≡ tallied_by (turn_after 52 11 mark) (settled_by 52 11 (method_by (number_of method) number) mark) 0 (P.readings 8 n planes.old) }
+    ensures content { planes.new ≡ P.planes 8 (walked_by (turn_after 52 11 mark) (settled_by 52 11 (method_by (number_of method) number) mark) 0 (P.readings 8 n planes.old)) }
+{
+    by_method::<u64, 2048, 8192>(planes, n, method, number, mark)
 }

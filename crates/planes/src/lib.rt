@@ -59,7 +59,7 @@ pub fn trim_planes_singles(
 {
     let asked = asking::ask_single(method, setting)?;
     ask_planes(planes.len(), 4, n)?;
-    let sums = plane_blocks::by_method::<u32, 4096, 16384>(
+    let sums = plane_blocks::method_singles(
         planes,
         n,
         asked.method,
@@ -108,7 +108,7 @@ pub fn trim_planes_doubles(
 {
     let asked = asking::ask_double(method, setting)?;
     ask_planes(planes.len(), 8, n)?;
-    let sums = plane_blocks::by_method::<u64, 2048, 8192>(
+    let sums = plane_blocks::method_doubles(
         planes,
         n,
         asked.method,

@@ -28,8 +28,8 @@ returns-in_err-ask_planes c =
     let it = refused_late 8 52 11 c.args.method c.args.setting c.args.mark c.args.n c.args.planes.now c.args.method c.in_ok-asked.asked.number refl e m c.in_err-ask_planes.ensures.1 in
     rw (p.1, p.2, c.in_err-ask_planes.ensures.0) record { answer = it.0; content = it.1 }
 
-pub by_method-sums-requires-clause-fitting : goal.by_method-sums-requires-clause-fitting
-by_method-sums-requires-clause-fitting c =
+pub method_doubles-sums-requires : goal.method_doubles-sums-requires
+method_doubles-sums-requires c =
     let a = c.in_ok-asked.ensures in
     let e = simp (to_z-of_z w32 c.args.setting c.ranges.setting) at a.refusal in
     let m = simp (to_z-of_z w32 c.args.setting c.ranges.setting) at a.number in
@@ -40,7 +40,7 @@ returns c =
     let a = c.in_ok-asked.ensures in
     let e = simp (to_z-of_z w32 c.args.setting c.ranges.setting) at a.refusal in
     let m = simp (to_z-of_z w32 c.args.setting c.ranges.setting) at a.number in
-    let sums = c.by_method-sums in
+    let sums = c.method_doubles-sums in
     let call = accepted_planes 8 52 11 c.args.method c.args.setting c.args.mark c.args.n c.args.planes.now (number_of c.in_ok-asked.asked.method) c.in_ok-asked.asked.number a.method e m
     c.in_ok-ask_planes.ensures (totals_of sums.result) sums.ensures.sums sums.new.planes sums.ensures.content in
     record { answer = ap accepted c.from.ensures ∙ call.0; content = call.1 }
