@@ -59,13 +59,7 @@ pub fn trim_planes_singles(
 {
     let asked = asking::ask_single(method, setting)?;
     ask_planes(planes.len(), 4, n)?;
-    let sums = plane_blocks::method_singles(
-        planes,
-        n,
-        asked.method,
-        asked.number,
-        mark,
-    );
+    let sums = plane_blocks::method_singles(planes, n, asked.method, asked.number, mark);
     Ok(Counts::from(sums))
 }
 
@@ -108,12 +102,6 @@ pub fn trim_planes_doubles(
 {
     let asked = asking::ask_double(method, setting)?;
     ask_planes(planes.len(), 8, n)?;
-    let sums = plane_blocks::method_doubles(
-        planes,
-        n,
-        asked.method,
-        asked.number,
-        mark,
-    );
+    let sums = plane_blocks::method_doubles(planes, n, asked.method, asked.number, mark);
     Ok(Counts::from(sums))
 }
