@@ -69,6 +69,7 @@ fn stepped<W: Word>(readings: &mut [W], q: u32, mark: W) -> Sums<W>
     if W::FINE <= q && q <= W::COARSE {
         return each(readings, |x: W| x.stepped(q, mark));
     }
+    let q = W::of(q);
     each(readings, |x: W| x.stepped_by_words(q, mark))
 }
 
@@ -250,7 +251,7 @@ fn plain_one<W: Word>(x: W, job: Job<W>, mark: W) -> Trimmed<W>
 {
     match job.method {
         Method::Digits => x.with_digits(&powers::POWERS, job.n, mark),
-        Method::Absolute => x.stepped_by_words(job.n, mark),
+        Method::Absolute => x.stepped_by_words(W::of(job.n), mark),
         Method::Round => rounded_one(x, job.tail, mark),
         _ => x.with_tail(job.tail, add_for(job.method, job.tail), mark),
     }

@@ -57,6 +57,10 @@ pub trait Word: Copy + Drop {
     fn one() -> Self
         ensures { value result ≡ 1 };
 
+    // A number of 32 bits as a word.
+    fn of(n: u32) -> Self
+        ensures { value result ≡ n };
+
     // The word as a number of 64 bits.
     fn wide(self) -> u64
         ensures { result ≡ value self };
@@ -119,11 +123,11 @@ pub trait Word: Copy + Drop {
         ensures magnitude { value result ≡ new_magnitude FRACTION EXPONENT (absolute q) 0 (value self) }
         ensures unclipped { clips FRACTION EXPONENT (absolute q) (value self) ≡ false };
 
-    // The same with any unit.
-    fn step(self, q: u32) -> Coarse<Self>
+    // The same with any unit, whose q is a word too.
+    fn step(self, q: Self) -> Coarse<Self>
         requires { value self < infinity FRACTION EXPONENT }
-        ensures magnitude { value result.magnitude ≡ new_magnitude FRACTION EXPONENT (absolute q) 0 (value self) }
-        ensures clipped { value result.clipped ≡ (if clips FRACTION EXPONENT (absolute q) (value self) then 1 else 0) };
+        ensures magnitude { value result.magnitude ≡ new_magnitude FRACTION EXPONENT (absolute (value q)) 0 (value self) }
+        ensures clipped { value result.clipped ≡ (if clips FRACTION EXPONENT (absolute (value q)) (value self) then 1 else 0) };
 
     // How many bits of a finite magnitude that is not zero are its tail by method 6 with n digits.
     fn digits_tail(self, table: &[u64; 633], n: u32) -> u32
@@ -178,8 +182,8 @@ pub trait Word: Copy + Drop {
     }
 
     // Method 5 with any unit.
-    final fn stepped_by_words(self, q: u32, mark: Self) -> Trimmed<Self>
-        ensures { settled_at value result ≡ settled_by FRACTION EXPONENT (absolute q) (value mark) 0 (value self) }
+    final fn stepped_by_words(self, q: Self, mark: Self) -> Trimmed<Self>
+        ensures { settled_at value result ≡ settled_by FRACTION EXPONENT (absolute (value q)) (value mark) 0 (value self) }
     {
         one::stepped_by_words(self, q, mark)
     }
@@ -232,6 +236,10 @@ impl Word for u32 {
 
     fn one() -> Self {
         1
+    }
+
+    fn of(n: u32) -> Self {
+        n
     }
 
     fn wide(self) -> u64 {
@@ -303,7 +311,7 @@ impl Word for u32 {
         absolute::fine_single(self, q)
     }
 
-    fn step(self, q: u32) -> Coarse<Self> {
+    fn step(self, q: Self) -> Coarse<Self> {
         absolute::coarse_single(self, q)
     }
 
@@ -343,6 +351,10 @@ impl Word for u64 {
 
     fn one() -> Self {
         1
+    }
+
+    fn of(n: u32) -> Self {
+        u64::from(n)
     }
 
     fn wide(self) -> u64 {
@@ -415,8 +427,8 @@ impl Word for u64 {
         absolute::fine_double(self, u64::from(q))
     }
 
-    fn step(self, q: u32) -> Coarse<Self> {
-        absolute::coarse_double(self, u64::from(q))
+    fn step(self, q: Self) -> Coarse<Self> {
+        absolute::coarse_double(self, q)
     }
 
     fn digits_tail(self, table: &[u64; 633], n: u32) -> u32 {

@@ -128,8 +128,8 @@ pub fn stepped<W: Word>(x: W, q: u32, mark: W) -> Trimmed<W>
 }
 
 // Method 5 with any unit 2^q.
-pub fn stepped_by_words<W: Word>(x: W, q: u32, mark: W) -> Trimmed<W>
-    ensures { settled_at W.value result ≡ settled_by W.FRACTION W.EXPONENT (absolute q) (W.value mark) 0 (W.value x) }
+pub fn stepped_by_words<W: Word>(x: W, q: W, mark: W) -> Trimmed<W>
+    ensures { settled_at W.value result ≡ settled_by W.FRACTION W.EXPONENT (absolute (W.value q)) (W.value mark) 0 (W.value x) }
 {
     let m = x.magnitude();
     let a = m.finite(m, W::zero());

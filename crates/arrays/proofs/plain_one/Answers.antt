@@ -23,7 +23,8 @@ pub returns-in-Absolute : goal.returns-in-Absolute
 returns-in-Absolute g c =
     let m = g.W.Word in
     let s = c.args in
-    c.stepped_by_words.ensures ∙ by_absolute m.FRACTION m.EXPONENT (m.value s.mark) (number_of s.job.method) s.job.n (ap number_of c.in-Absolute.is) (m.value s.x)
+    let stepped = rw c.of.ensures at c.stepped_by_words.ensures in
+    stepped ∙ by_absolute m.FRACTION m.EXPONENT (m.value s.mark) (number_of s.job.method) s.job.n (ap number_of c.in-Absolute.is) (m.value s.x)
 
 pub rounded_one-requires : goal.rounded_one-requires
 rounded_one-requires g c = suits_tail c.requires.0
