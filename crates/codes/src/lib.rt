@@ -214,17 +214,20 @@ fn holds_at(span: Span, exponent: u32, steps: u64) -> bool
     let unit = unit_of(exponent);
     let high = cut_reading(span.high, unit);
     let low = cut_reading(opposite(span.low), unit);
+    let lost = high.lost + low.lost;
+    // Where both lost something, both are small beside one step. Each answer returns by itself: as one choice the search for a step takes a quarter longer.
+    if lost == 2 {
+        return true;
+    }
     let difference = high.word.wrapping_add(low.word);
     let top = top_of(steps, exponent + 1 - unit);
-    let lost = high.lost + low.lost;
-    // Where both lost something, both are small beside one step.
-    if lost == 2 {
-        true
-    } else if difference == top {
-        lost == 0
-    } else {
-        difference < top
+    if difference < top {
+        return true;
     }
+    if top < difference {
+        return false;
+    }
+    lost == 0
 }
 
 // The least exponent, in least spacings, whose steps hold a span.

@@ -1,4 +1,5 @@
 use Rattle.std.proofs.Common.{◌≡◌, ℕ, refl, sym, ap, ◌∙◌, arith}
+use borrow.Author.Tests.{lt-ltb, le-ltb}
 use Rattle.codes.specs.declared.Cut.{Cut}
 use Rattle.codes.specs.Cut.{reading_of, opposed}
 use Rattle.codes.proofs.Reading.{opposed_magnitude, reading_lost, sign_small, span_test, span_both}
@@ -25,11 +26,20 @@ returns-then-lost-eq2 c =
 pub returns-then-difference-top : goal.returns-then-difference-top
 returns-then-difference-top c =
     let s = c.args in
-    (span_test s.span s.steps s.exponent c.unit_of-unit.result c.top_of-top.result _ c.cut_reading-high.result c.cut_reading-low.result (sign_small s.span.low (omega arith)) (omega arith) c.requires.span_bound c.unit_of-unit.ensures c.cut_reading-high.ensures
-    (low_is _ _ _ _ c.cut_reading-low.ensures c.opposite.ensures) refl c.top_of-top.ensures c.if-lost-eq2.false).0 c.if-difference-top.true
+    let test = span_test s.span s.steps s.exponent c.unit_of-unit.result c.top_of-top.result _ c.cut_reading-high.result c.cut_reading-low.result (sign_small s.span.low (omega arith)) (omega arith) c.requires.span_bound c.unit_of-unit.ensures c.cut_reading-high.ensures
+    (low_is _ _ _ _ c.cut_reading-low.ensures c.opposite.ensures) refl c.top_of-top.ensures c.if-lost-eq2.false in
+    sym (lt-ltb _ _ (omega arith)) ∙ test.1 (λ e. omega (arith, e))
 
-pub returns-else-difference-top : goal.returns-else-difference-top
-returns-else-difference-top c =
+pub returns-then-top-difference : goal.returns-then-top-difference
+returns-then-top-difference c =
     let s = c.args in
-    (span_test s.span s.steps s.exponent c.unit_of-unit.result c.top_of-top.result _ c.cut_reading-high.result c.cut_reading-low.result (sign_small s.span.low (omega arith)) (omega arith) c.requires.span_bound c.unit_of-unit.ensures c.cut_reading-high.ensures
-    (low_is _ _ _ _ c.cut_reading-low.ensures c.opposite.ensures) refl c.top_of-top.ensures c.if-lost-eq2.false).1 c.if-difference-top.false
+    let test = span_test s.span s.steps s.exponent c.unit_of-unit.result c.top_of-top.result _ c.cut_reading-high.result c.cut_reading-low.result (sign_small s.span.low (omega arith)) (omega arith) c.requires.span_bound c.unit_of-unit.ensures c.cut_reading-high.ensures
+    (low_is _ _ _ _ c.cut_reading-low.ensures c.opposite.ensures) refl c.top_of-top.ensures c.if-lost-eq2.false in
+    sym (le-ltb _ _ (omega arith)) ∙ test.1 (λ e. omega (arith, e))
+
+pub returns : goal.returns
+returns c =
+    let s = c.args in
+    let test = span_test s.span s.steps s.exponent c.unit_of-unit.result c.top_of-top.result _ c.cut_reading-high.result c.cut_reading-low.result (sign_small s.span.low (omega arith)) (omega arith) c.requires.span_bound c.unit_of-unit.ensures c.cut_reading-high.ensures
+    (low_is _ _ _ _ c.cut_reading-low.ensures c.opposite.ensures) refl c.top_of-top.ensures c.if-lost-eq2.false in
+    test.0 (omega arith)
