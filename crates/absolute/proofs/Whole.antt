@@ -4,6 +4,7 @@ use mathlib.Core.Path.{◌≡◌, refl, sym, ◌∙◌}
 use mathlib.Core.Bool.{Bool, true, false, cond}
 use Prim.Native.Nat.{ℕ, zero, suc, ◌+◌, ◌-◌, ◌*◌, ◌/◌, ◌^◌, ◌≤◌, ◌<◌, zero-le}
 use native.Mathlib.Nat.{div-mul-le_self, le_refl, mul-le-mul_left, mul-le-mul_right, pow-suc}
+use native.Mathlib.Numerals.{add-one}
 use native.Mathlib.Decide.{dec_lt}
 use native.Mathlib.Omega.{arith}
 use borrow.Author.Tests.{lt-ltb, le-ltb}
@@ -57,14 +58,14 @@ module _ (F m : ℕ) where
   sig_below : sig < 2 * 2 ^ F
   sig_below = omega (arith, (form F m).is, (form F m).below)
 
-  pub sig_small : F ≤ 52 → sig < 2 ^ 53
-  sig_small h = omega (arith, sig_below, pow_mono h)
+  pub sig_small : {b : ℕ} → F ≤ b → sig < 2 ^ (b + 1)
+  sig_small {b} h = rw (add-one, pow-suc) (omega (arith, sig_below, pow_mono h))
 
   near_below : (d : ℕ) → nearest sig (2 ^ d) * 2 ^ d ≤ sig + 2 ^ d
   near_below d = omega (arith, mul-le-mul_right (2 ^ d) (nearest_floor sig (2 ^ d) (pow_pos d)).1, div-mul-le_self sig (2 ^ d))
 
-pub unit_small : (F d : ℕ) → F ≤ 52 → d ≤ F + 1 → 2 ^ d ≤ 2 ^ 53
-unit_small F d h l = pow_mono {i = d} {j = 53} (omega arith)
+pub unit_small : (F d : ℕ) {b : ℕ} → F ≤ b → d ≤ F + 1 → 2 ^ d ≤ 2 ^ (b + 1)
+unit_small F d {b} h l = pow_mono {i = d} {j = b + 1} (omega arith)
 
 point_le : (F X c x : ℕ) → point F X c x ≤ c * 2 ^ F + x
 unfolding point
@@ -150,7 +151,7 @@ module _ {F q m e h g k : ℕ} (w : Work F q m e h g k) where
   pub unit_pos : 0 < g
   unit_pos = rw w.unit (pow_pos (q - e))
 
-  pub near_fits : F ≤ 52 → q - e ≤ F + 1 → e * 2 ^ F + k * g ≤ m + 2 ^ 53
+  pub near_fits : {b : ℕ} → F ≤ b → q - e ≤ F + 1 → e * 2 ^ F + k * g ≤ m + 2 ^ (b + 1)
   near_fits f l =
       rw (near_is, w.exponent)
       (omega (arith, near_below F m (q - spacing_exp F m), low_part F m, unit_small F (q - spacing_exp F m) f (rw w.exponent at l)))

@@ -55,7 +55,7 @@ pub fn power(d: u64) -> u64
 
 // n / g to the nearest whole number, ties to the even one.
 fn nearest_whole(n: u64, g: u64) -> u64
-    requires { (n < 2 ^ 54) × ((0 < g) × (g < 2 ^ 54)) }
+    requires { (n < 2 ^ 63) × (0 < g) }
     ensures { result ≡ nearest n g }
 {
     let whole = n / g;
@@ -71,7 +71,7 @@ fn nearest_whole(n: u64, g: u64) -> u64
 
 // The exponent of the spacing at a magnitude, with this number of fraction bits.
 pub fn spacing_exponent(bits: u64, m: u64) -> u64
-    requires { bits ≤ 52 }
+    requires { bits ≤ 62 }
     ensures { result ≡ spacing_exp bits m }
 {
     let field = m >> bits;
@@ -83,7 +83,7 @@ pub fn spacing_exponent(bits: u64, m: u64) -> u64
 
 // The magnitude of a number of spacings of 2^exponent least spacings each, a number that is 0 or reaches the binade with that spacing.
 fn magnitude_at(bits: u64, exponent: u64, spacings: u64) -> u64
-    requires { (bits ≤ 52) × (exponent * 2 ^ bits + spacings < 2 ^ 64) }
+    requires { (bits ≤ 62) × (exponent * 2 ^ bits + spacings < 2 ^ 64) }
     ensures { result ≡ cond (eqb spacings 0) 0 (exponent * 2 ^ bits + spacings) }
 {
     if spacings == 0 {
@@ -92,9 +92,9 @@ fn magnitude_at(bits: u64, exponent: u64, spacings: u64) -> u64
     exponent * power(bits) + spacings
 }
 
-// The nearest multiple of any unit by whole numbers, clipped, for either width: with this number of fraction bits, and the magnitude of infinity as the limit.
-fn coarse_step(bits: u64, limit: u64, m: u64, q: u64) -> Coarse<u64>
-    requires { (bits ≤ 52) × ((m < limit) × (limit < 2 ^ 63)) }
+// The nearest multiple of any unit by whole numbers, clipped, for every width up to 64 bits: with this number of fraction bits, and the magnitude of infinity as the limit.
+pub fn coarse_step(bits: u64, limit: u64, m: u64, q: u64) -> Coarse<u64>
+    requires { (bits ≤ 62) × ((m < limit) × (limit < 2 ^ 63)) }
     ensures { (X : ℕ) → limit ≡ infinity bits X → Stepped bits X q m result.magnitude result.clipped }
 {
     let exponent = spacing_exponent(bits, m);
@@ -142,7 +142,7 @@ pub fn coarse_single(m: u32, q: u32) -> Coarse<u32>
 }
 
 // The same of a double. Both are a call of `coarse_step`: a function for both would need infinity and the narrowing of a result as methods with two impls, which is no
-// plainer.
+// plainer, or bit by bit, as `Word::any_step` has them for a word of another crate, which is slower.
 pub fn coarse_double(m: u64, q: u64) -> Coarse<u64>
     requires { m < 0x7ff0000000000000 }
     ensures magnitude { result.magnitude ≡ new_magnitude 52 11 (absolute q) 0 m }

@@ -57,13 +57,30 @@ pub trait Word: Copy + Drop {
     fn one() -> Self
         ensures { value result ≡ 1 };
 
-    // A number of 32 bits as a word.
+    // A number of 32 bits as a word. An impl may replace this body, and any other here that isn't `final`.
     fn of(n: u32) -> Self
-        ensures { value result ≡ n };
+        ensures { value result ≡ n }
+    {
+        Self::from_wide(u64::from(n))
+    }
 
     // The word as a number of 64 bits.
     fn wide(self) -> u64
         ensures { result ≡ value self };
+
+    // The word of such a number, where words have room for it: bit by bit.
+    fn from_wide(n: u64) -> Self
+        requires { n < 2 ^ (FRACTION + EXPONENT + 1) }
+        ensures { value result ≡ n }
+    {
+        let mut word = Self::zero();
+        for t in 0..64 {
+            if (n >> t) % 2 == 1 {
+                word = word.sum(Self::unit(t));
+            }
+        }
+        word
+    }
 
     fn and(self, other: Self) -> Self
         ensures { value result ≡ bit_and (value self) (value other) };
@@ -123,11 +140,35 @@ pub trait Word: Copy + Drop {
         ensures magnitude { value result ≡ new_magnitude FRACTION EXPONENT (absolute q) 0 (value self) }
         ensures unclipped { clips FRACTION EXPONENT (absolute q) (value self) ≡ false };
 
-    // The same with any unit, whose q is a word too.
-    fn step(self, q: Self) -> Coarse<Self>
+    // The same with any unit.
+    fn step(self, q: u32) -> Coarse<Self>
+        requires { value self < infinity FRACTION EXPONENT }
+        ensures magnitude { value result.magnitude ≡ new_magnitude FRACTION EXPONENT (absolute q) 0 (value self) }
+        ensures clipped { value result.clipped ≡ (if clips FRACTION EXPONENT (absolute q) (value self) then 1 else 0) }
+    {
+        self.any_step(Self::of(q))
+    }
+
+    // The same with any unit, whose q is a word too: by numbers of 64 bits.
+    fn any_step(self, q: Self) -> Coarse<Self>
         requires { value self < infinity FRACTION EXPONENT }
         ensures magnitude { value result.magnitude ≡ new_magnitude FRACTION EXPONENT (absolute (value q)) 0 (value self) }
-        ensures clipped { value result.clipped ≡ (if clips FRACTION EXPONENT (absolute (value q)) (value self) then 1 else 0) };
+        ensures clipped { value result.clipped ≡ (if clips FRACTION EXPONENT (absolute (value q)) (value self) then 1 else 0) }
+    {
+        // infinity is what a word of ones has left without its sign and its fraction
+        let ones = Self::zero().wrapping_sub(Self::one()).wide();
+        let fraction = Self::unit(Self::FRACTION).wide() - 1;
+        let step = absolute::coarse_step(
+            u64::from(Self::FRACTION),
+            ones / 2 - fraction,
+            self.wide(),
+            q.wide(),
+        );
+        Coarse {
+            magnitude: Self::from_wide(step.magnitude),
+            clipped: Self::from_wide(step.clipped),
+        }
+    }
 
     // How many bits of a finite magnitude that is not zero are its tail by method 6 with n digits.
     fn digits_tail(self, table: &[u64; 633], n: u32) -> u32
@@ -311,7 +352,7 @@ impl Word for u32 {
         absolute::fine_single(self, q)
     }
 
-    fn step(self, q: Self) -> Coarse<Self> {
+    fn any_step(self, q: Self) -> Coarse<Self> {
         absolute::coarse_single(self, q)
     }
 
@@ -427,7 +468,7 @@ impl Word for u64 {
         absolute::fine_double(self, u64::from(q))
     }
 
-    fn step(self, q: Self) -> Coarse<Self> {
+    fn any_step(self, q: Self) -> Coarse<Self> {
         absolute::coarse_double(self, q)
     }
 

@@ -133,7 +133,7 @@ pub fn stepped_by_words<W: Word>(x: W, q: W, mark: W) -> Trimmed<W>
 {
     let m = x.magnitude();
     let a = m.finite(m, W::zero());
-    let step = a.step(q);
+    let step = a.any_step(q);
     let new = m.finite(with_magnitude(x, m, step.magnitude), x);
     settle(x, new, step.clipped, mark)
 }

@@ -1,10 +1,8 @@
 -- `coarse_step` meets its contract, by the laws of `Whole`: it stays, becomes zero, moves, or clips. None of its numbers passes 64 bits.
 use native.Mathlib.Omega.{arith}
 use mathlib.Core.Path.{sym}
-use Prim.Native.Nat.{◌-◌}
 use lib.Pow.{pow_pos}
-use Rattle.meaning.specs.Readings.{spacing_exp}
-use Rattle.absolute.proofs.Whole.{low_part, sig_small, unit_small, step_stays, step_zero, Work, unit_pos, near_fits, below_fits, work_near, work_below}
+use Rattle.absolute.proofs.Whole.{low_part, sig_small, step_stays, step_zero, Work, unit_pos, near_fits, below_fits, work_near, work_below}
 use Rattle.absolute.proofs.coarse_step.Goals as goal
 
 -- what the code has, once it has the nearest whole number
@@ -40,15 +38,13 @@ overflow_sub-significand c =
 pub nearest_whole-requires : goal.nearest_whole-requires
 nearest_whole-requires c =
     let s = c in
-    let e = c.spacing_exponent-exponent.ensures in
-    let u = unit_small s.args.bits (s.args.q - spacing_exp s.args.bits s.args.m) (omega arith) (omega (arith, e)) in
-    rw (c.power.ensures, c.power-unit.ensures, e) (omega (arith, sig_small s.args.bits s.args.m (omega arith)), (pow_pos _, omega arith))
+    rw (c.power.ensures, c.power-unit.ensures, c.spacing_exponent-exponent.ensures) (omega (arith, sig_small s.args.bits s.args.m {b = 62} (omega arith)), pow_pos _)
 
 pub overflow_mul-nearest_whole : goal.overflow_mul-nearest_whole
-overflow_mul-nearest_whole c = omega (arith, near_fits (work c) (omega arith) (omega arith))
+overflow_mul-nearest_whole c = omega (arith, near_fits (work c) {b = 62} (omega arith) (omega arith))
 
 pub magnitude_at-near-requires : goal.magnitude_at-near-requires
-magnitude_at-near-requires c = (omega arith, omega (arith, near_fits (work c) (omega arith) (omega arith)))
+magnitude_at-near-requires c = (omega arith, omega (arith, near_fits (work c) {b = 62} (omega arith) (omega arith)))
 
 pub returns-then-near-limit : goal.returns-then-near-limit
 returns-then-near-limit c X e =

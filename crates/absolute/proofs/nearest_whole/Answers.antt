@@ -6,7 +6,7 @@ use Rattle.meaning.proofs.Nearest.{nearest_down, nearest_up, nearest_tie}
 use Rattle.absolute.proofs.nearest_whole.Goals as goal
 
 pub overflow_mul-twice : goal.overflow_mul-twice
-overflow_mul-twice c = omega (arith, c.requires, mod-lt c.args.n c.requires.1.0)
+overflow_mul-twice c = omega (arith, c.requires, mod-lt c.args.n c.requires.1)
 
 pub returns-then-twice-g : goal.returns-then-twice-g
 returns-then-twice-g c = sym (nearest_down _ _ c.if-twice-g.true)

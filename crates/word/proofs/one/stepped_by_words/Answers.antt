@@ -10,8 +10,8 @@ use Rattle.word.proofs.Room.{below}
 use Rattle.word.proofs.one.stepped_by_words.Goals as goal
 
 -- what is handed on is a finite magnitude
-pub step-step-requires : goal.step-step-requires
-step-step-requires g c =
+pub any_step-step-requires : goal.any_step-step-requires
+any_step-step-requires g c =
     let w = g.W.Word in
     let i = infinity w.FRACTION w.EXPONENT in
     let finite = below _ i _ _ (omega (arith, g.met.W.Word.one_finite, c.zero.ensures)) c.finite-a.ensures in
@@ -24,7 +24,7 @@ with_magnitude-requires g c =
     let i = infinity w.FRACTION w.EXPONENT in
     let finite = below _ i _ _ (omega (arith, g.met.W.Word.one_finite, c.zero.ensures)) c.finite-a.ensures in
     let back = new_below w.FRACTION w.EXPONENT (absolute (w.value c.args.q)) tt 0 (w.value c.finite-a.result) finite in
-    (c.magnitude-m.ensures.room, c.magnitude-m.ensures.value, subst (λ (n : ℕ). n < i) (sym c.step-step.ensures.magnitude) back)
+    (c.magnitude-m.ensures.room, c.magnitude-m.ensures.value, subst (λ (n : ℕ). n < i) (sym c.any_step-step.ensures.magnitude) back)
 
 pub returns : goal.returns
 unfolding over
@@ -37,7 +37,7 @@ returns g c =
     let same = finite_or_zero _ (infinity w.FRACTION w.EXPONENT) (v c.finite-a.result) (rw (m, zero) at c.finite-a.ensures) in
     let settled = c.settle.ensures in
     settled
-    ∙ settled_by_lem w.FRACTION w.EXPONENT (absolute (v s.q)) (v s.mark) (v s.x) (v c.step-step.result.magnitude) (v c.step-step.result.clipped) (v c.finite-new.result)
-    (λ f. c.step-step.ensures.magnitude ∙ ap (λ (a : ℕ). new_magnitude w.FRACTION w.EXPONENT (absolute (v s.q)) 0 a) (same f))
-    (λ f. c.step-step.ensures.clipped ∙ ap (λ (a : ℕ). cond (clips w.FRACTION w.EXPONENT (absolute (v s.q)) a) 1 0) (same f))
+    ∙ settled_by_lem w.FRACTION w.EXPONENT (absolute (v s.q)) (v s.mark) (v s.x) (v c.any_step-step.result.magnitude) (v c.any_step-step.result.clipped) (v c.finite-new.result)
+    (λ f. c.any_step-step.ensures.magnitude ∙ ap (λ (a : ℕ). new_magnitude w.FRACTION w.EXPONENT (absolute (v s.q)) 0 a) (same f))
+    (λ f. c.any_step-step.ensures.clipped ∙ ap (λ (a : ℕ). cond (clips w.FRACTION w.EXPONENT (absolute (v s.q)) a) 1 0) (same f))
     (rw (c.with_magnitude.ensures, m) at c.finite-new.ensures)
