@@ -1,5 +1,5 @@
-// A word that another crate brings: a double's pattern in a struct of its own. It has what `Word` asks of an impl and nothing else, so what `Word` has a body for runs as it
-// stands there. And callers of `Word`, for every such word. Internal: in no program; the proof shows that this can be written, and the tests run it.
+// A word that another crate brings: a double's pattern in a struct of its own, with u64's operators. It has what `Word` asks of an impl and nothing else, so what `Word` has
+// a body for runs as it stands there. And callers of `Word`, for every such word. Internal: in no program; the proof shows that this can be written, and the tests run it.
 #![tactic(auto)]
 
 ghost use Rattle.std.specs.Prelude.{◌≡◌, ◌<◌, if◌then◌else◌};
@@ -8,7 +8,7 @@ ghost use Rattle.meaning.specs.Readings.{infinity};
 ghost use Rattle.meaning.specs.Methods.{absolute, clips, new_magnitude};
 ghost use Rattle.reading.specs.Left.{settled_by};
 ghost use Rattle.reading.specs.Words.{settled_at};
-ghost use Rattle.other_word.specs.Widths.{one_finite_own};
+ghost use Rattle.word.specs.Widths.{one_finite_double};
 
 use absolute::Coarse;
 use reading::Trimmed;
@@ -40,7 +40,7 @@ impl Word for Own {
 
     ghost narrow = { Prim.search rules };
 
-    ghost one_finite = { one_finite_own };
+    ghost one_finite = { one_finite_double };
 
     fn zero() -> Self {
         Own(0)
@@ -55,11 +55,11 @@ impl Word for Own {
     }
 
     fn and(self, other: Self) -> Self {
-        Own(self.0 & other.0)
+        Own(self.0.and(other.0))
     }
 
     fn xor(self, other: Self) -> Self {
-        Own(self.0 ^ other.0)
+        Own(self.0.xor(other.0))
     }
 
     fn choose(self, other: Self, yes: Self, no: Self) -> Self {
@@ -67,61 +67,56 @@ impl Word for Own {
     }
 
     fn unit(t: u32) -> Self {
-        Own(1u64 << t)
+        Own(u64::unit(t))
     }
 
     fn shifted(self, t: u32) -> Self {
-        Own(self.0 >> t)
+        Own(self.0.shifted(t))
     }
 
     fn sum(self, more: Self) -> Self {
-        Own(self.0 + more.0)
+        Own(self.0.sum(more.0))
     }
 
     fn minus(self, less: Self) -> Self {
-        Own(self.0 - less.0)
+        Own(self.0.minus(less.0))
     }
 
     fn wrapping_add(self, more: Self) -> Self {
-        Own(std::num::wrapping_add_u64(self.0, more.0))
+        Own(Word::wrapping_add(self.0, more.0))
     }
 
     fn wrapping_sub(self, less: Self) -> Self {
-        Own(std::num::wrapping_sub_u64(self.0, less.0))
+        Own(Word::wrapping_sub(self.0, less.0))
     }
 
     fn sign(self) -> Self {
-        Own(self.0 >> 63)
+        Own(self.0.sign())
     }
 
     fn magnitude(self) -> Self {
-        Own(self.0 % 0x8000_0000_0000_0000)
+        Own(self.0.magnitude())
     }
 
     fn finite(self, yes: Self, no: Self) -> Self {
-        if self.0 < 0x7ff0_0000_0000_0000 {
-            yes
-        } else {
-            no
-        }
+        Own(self.0.finite(yes.0, no.0))
     }
 
     fn left(self, new: Self, mark: Self) -> Left<Self> {
-        let wanted = self.choose(mark, self, new);
-        let pattern = wanted.choose(mark, self, wanted);
+        let left = self.0.left(new.0, mark.0);
         Left {
-            wanted,
-            pattern,
-            lost: Own(std::num::wrapping_sub_u64(self.0, pattern.0)),
+            wanted: Own(left.wanted),
+            pattern: Own(left.pattern),
+            lost: Own(left.lost),
         }
     }
 
     fn added_step(self, q: u32) -> Self {
-        Own(absolute::fine_double(self.0, u64::from(q)))
+        Own(self.0.added_step(q))
     }
 
     fn digits_tail(self, table: &[u64; 633], n: u32) -> u32 {
-        digit_tails::double_tail(table, self.0, n)
+        self.0.digits_tail(table, n)
     }
 }
 
